@@ -1,4 +1,4 @@
-// A greeter in C++, for crates/hello_bench/data/hello.toml.
+// A greeter in C++, for crates/example_hello/data/hello.toml.
 #include "geqiwlla.hpp"
 
 struct Greeter : geqiwlla::Component {

@@ -1,4 +1,4 @@
-"""A greeter in Python, for crates/hello_bench/data/hello.toml."""
+"""A greeter in Python, for crates/example_hello/data/hello.toml."""
 import sys
 
 from geqiwlla import UVM_LOW, Component, component, main

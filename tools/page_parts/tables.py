@@ -98,14 +98,14 @@ def note(comment):
 
 
 def of_script_faults():
-    path = "script_values/src/faults.rt"
+    path = "script_tables/src/faults.rt"
     labels = sources.arms(path, "label")
     rows = [(labels[name].removeprefix("script fault "), comment) for name, comment in sources.variants(path, "ScriptFault") if name != "Memory"]
     return table(["script fault", "when"], rows)
 
 
 def of_answer_faults():
-    path = "scripted_objects/src/faults.rt"
+    path = "script_objects/src/faults.rt"
     texts = sources.arms(path, "fmt")
     rows = [(f"`{texts[name]}`", comment) for name, comment in sources.variants(path, "AnswerFault") if name != "Memory"]
     return table(["text", "when"], rows)

@@ -1,9 +1,9 @@
--- What is told of each fault.
+-- The texts of the errors of a core.
 use Rattle.std.specs.Prelude.{ℕ, List, codes}
 use Rattle.bench_core.specs.declared.faults.CoreFault.{CoreFault}
 use Rattle.bench_core.specs.declared.faults.CoreFault.TheVariants.{Memory, LogFull, Failed, NoTest}
 
--- the text of each fault
+-- the text of each error
 abbrev pub fault_text : CoreFault → List ℕ
 fault_text Memory = codes "out of memory"
 fault_text LogFull = codes "log full"

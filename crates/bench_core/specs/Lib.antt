@@ -1,3 +1,4 @@
 pub mod Faults
 pub mod Cores
-pub use Rattle.bench_choices.specs.Worlds
+pub mod NextActions
+pub use Rattle.world_views.specs.Worlds

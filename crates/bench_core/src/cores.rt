@@ -1,4 +1,4 @@
-//! The machine.
+//! The core of a testbench.
 
 ghost use Rattle.std.specs.Prelude.{◌≡◌, ◌≢◌, ◌<◌, ◌∷◌, [], true, false, OnOk, OnErr, IfOk, IfErr, IfSome, IfNone, IsSome, is_some, Some, None, ◌&&◌, length, ◌++◌, nat_lt, if◌then◌else◌, option_map};
 ghost use Rattle.std.specs.Bool.{OnTrue, OnFalse};
@@ -17,19 +17,19 @@ ghost use Rattle.bench_history.specs.Arbitration.{waiters_at};
 ghost use Rattle.bench_history.specs.Reports.{report_commands};
 ghost use Rattle.bench_history.specs.Sequences.{sequences_of};
 ghost use Rattle.uvm_glob.specs.Printed.{IsPrinted};
-ghost use Rattle.uvm_report.specs.Changes.{Gives};
+ghost use Rattle.uvm_report.specs.Changes.{ReportsAgree};
 ghost use Rattle.uvm_report.specs.Plain.{ArePlainLines};
 ghost use Rattle.uvm_lines.specs.Lines.{who_text};
 ghost use Rattle.bench_history.specs.Next.{next_of, made_in, declined_in, IsLegal};
 ghost use Rattle.bench_history.specs.Cases as comes;
 ghost use Rattle.bench_history.specs.Laws.{IsSomething};
 ghost use Rattle.bench_core.specs.Cores.{DrawsOne, HasEntered, IsDrawing, IsDrawn, IsNextTurn, IsToldTurn, IsTurn, drawn_by, word_in, IsUnmade, core_after, failed_from, is_sound, turn_of, need_of, answer_in, turn_after, call_of, IsAsk, AsksSomething, AsksThere, last_line, last_text};
-ghost use Rattle.bench_choices.specs.Worlds.{broken, made_who};
-ghost use Rattle.bench_choices.specs.Choices.{IsChoice};
+ghost use Rattle.bench_core.specs.Worlds.{broken, made_who};
+ghost use Rattle.bench_core.specs.NextActions.{IsNextAction};
 ghost use Rattle.bench_core.specs.Cores.{Nothing, IsRequest};
 
 use crate::faults::CoreFault;
-use bench_choices::{Choice, Question, World, choose, lent, report_lines, told, upcoming};
+use crate::{NextAction, PendingCall, World, choose, next, report_lines, services, status};
 use bench_history::{Need, laws};
 use bench_script::Script;
 use rand_core::Rng;
@@ -42,57 +42,46 @@ use uvm_phase::Phase;
 use uvm_report::Reports;
 use uvm_tree::NodeId;
 
-/// What a call of `next` came to.
+/// The result of `Core::next`.
 #[derive(Clone, Copy, PartialEq, Eq)]
 pub enum Turn {
-    /// An object is needed; `need` says which.
+    /// A request for an object, which `need` returns.
     Need,
-    /// Somebody is called; `call` says with what.
+    /// A request for an answer to a call, which `call` returns.
     Ask {
-        /// Who is to answer: a component, or a sequence.
+        /// The component or sequence that is to answer.
         who: Who,
     },
-    /// A sequence has ended (IEEE 1800.2-2020, Clause 14).
+    /// The end of a sequence (IEEE 1800.2-2020, Clause 14).
     Leave {
         /// The sequence, with its number and its home.
         who: Who,
     },
-    /// An entry was made.
+    /// A new log entry.
     Moved,
-    /// The run is over.
+    /// The end of the run.
     Over,
 }
 
-/// What came of the next entry.
-#[derive(Clone, Copy)]
-pub(crate) enum Progress {
-    /// Nothing comes.
-    Over,
-    /// It was made.
-    Moved,
-    /// Something is asked for first, which stands then.
-    Asked,
-}
-
-/// How a machine is.
+/// The state of a core.
 #[derive(Clone, Copy, PartialEq, Eq)]
 pub enum Health {
-    /// It goes on.
+    /// A core that has not failed.
     Good,
-    /// It has failed with a full log, and still tells what the log says.
+    /// A core that has failed with a full log. All its queries still answer by the log.
     Full,
-    /// Memory ran out: it tells no more than the log.
+    /// A core that ran out of memory. Only its log can still be read.
     Broken,
 }
 
-/// The machine of a testbench, with answers as values. Contracts see the script, the log with the newest entry first, what was
-/// asked, how the machine is, and the sequences that have ended and were not told yet.
+/// The core of a testbench: it appends the entries of the log step by step, and takes answers as values. Contracts see the script, the log
+/// (newest entry first), the open request, the state of the core, and the ended sequences not yet reported.
 #[derive(Drop)]
 pub struct Core {
     world: World,
-    question: Option<Question>,
+    pending_call: Option<PendingCall>,
     health: Health,
-    // How many of the sequences that the newest entry has ended were told.
+    // How many of the sequences that the newest entry has ended were reported.
     told: usize,
 }
 
@@ -103,13 +92,13 @@ impl Model for Core {
 
     ghost Value = { CoreValue };
 
-    ghost view = { λ c. record { script = c.world.script; history = c.world.history; standing = standing_of c.world.waiting c.question; health = c.health; leaving = drop c.told (leaving_of c.world.history) } };
+    ghost view = { λ c. record { script = c.world.script; history = c.world.history; standing = standing_of c.world.pending c.pending_call; health = c.health; leaving = drop c.told (leaving_of c.world.history) } };
 
-    ghost invariant = { λ c. IsCore c.world c.question c.health (drop c.told (leaving_of c.world.history)) };
+    ghost invariant = { λ c. IsCore c.world c.pending_call c.health (drop c.told (leaving_of c.world.history)) };
 }
 
 impl Core {
-    /// The machine of a script, before the first entry (`NoTest` where the script has no test, else `Memory`).
+    /// Creates the core of a script, with an empty log. Errors: `NoTest` if the script has no test; `Memory` (out of memory).
     pub fn new(alloc: Global, script: Script) -> Result<Core, CoreFault>
         ensures ok { IfOk result (λ core. IsSome script.test × (core ≡ record { script = script; history = []; standing = Nothing; health = Health.Good; leaving = [] })) }
         ensures err { IfErr result (IsUnmade script) }
@@ -120,7 +109,7 @@ impl Core {
         match World::new(alloc, script) {
             Ok(world) => Ok(Core {
                 world,
-                question: None,
+                pending_call: None,
                 health: Health::Good,
                 told: 0,
             }),
@@ -128,11 +117,12 @@ impl Core {
         }
     }
 
-    /// Tells a sequence that has ended (`Leave`), once each, in rising number and before any further entry; else makes the next
-    /// entry, or says what it needs: an object (`Need`) or an answer (`Ask`), again and again until that is there; `Over` once
-    /// the run is over. Whoever is asked is a component, or a sequence that lives. `LogFull` where an entry would be next and the
-    /// log is full, `Memory` where memory is refused, and `Failed` from then on. A word is drawn where one decides whom the next
-    /// item is granted (Clause 15), and for nothing else; where memory is refused then, it may be lost.
+    /// Performs one step. Reports each ended sequence once, in ascending order of number and before any further entry (`Leave`). Otherwise
+    /// appends the next log entry (`Moved`), or makes or repeats its request for an object (`Need`) or an answer (`Ask`). Returns `Over`
+    /// when the run has ended. The target of `Ask` is a component or an active sequence. One random number is consumed if it decides which
+    /// sequence is granted the next item (Clause 15), otherwise none. Errors: `Failed` after an earlier `LogFull` or `Memory`; `LogFull` if
+    /// an entry would come next and the log is full; `Memory` (out of memory). After an error the core has failed. `Memory` may also lose a
+    /// random number.
     pub fn next<R: Rng>(&mut self, words: &mut R) -> Result<Turn, CoreFault>
         ensures turn { IsToldTurn self.old.leaving result self.old self.new }
         ensures asked { IfOk result (λ turn. AsksThere turn self.old.history) }
@@ -146,35 +136,38 @@ impl Core {
         self.turn_on(words)
     }
 
-    /// What was asked: an object, or an answer. None where neither was.
+    /// Returns the open request (`Need` or `Ask`), or `None` if there is none.
     pub fn turn(&self) -> Option<Turn>
         ensures { result ≡ turn_of self.now.standing }
     {
-        match (self.world.need(), &self.question) {
+        match (self.world.need(), &self.pending_call) {
             (Some(_), _) => Some(Turn::Need),
-            (None, Some(question)) => Some(Turn::Ask { who: question.who }),
+            (None, Some(pending_call)) => Some(Turn::Ask {
+                who: pending_call.who,
+            }),
             (None, None) => None,
         }
     }
 
-    /// Lends the call that somebody is asked to answer, if somebody is. Takes no memory.
+    /// Returns the call that is to be answered, or `None` if no answer is requested. Allocates no memory.
     pub fn call(&self) -> Option<&Call>
         ensures { option_copied result ≡ call_of self.now.standing }
     {
-        match (self.world.need(), &self.question) {
-            (None, Some(question)) => Some(&question.call),
+        match (self.world.need(), &self.pending_call) {
+            (None, Some(pending_call)) => Some(&pending_call.call),
             _ => None,
         }
     }
 
-    /// The object that is needed, if one is.
+    /// Returns the object that is needed, or `None` if none is.
     pub fn need(&self) -> Option<&Need>
         ensures { option_copied result ≡ need_of self.now.standing }
     {
         self.world.need()
     }
 
-    /// The needed object was made: the component, or the sequence, that it is now. Takes no memory.
+    /// Records that the needed object is made, and returns the component or sequence that it is. Requires that an object is needed.
+    /// Allocates no memory.
     pub fn made(&mut self) -> Who
         requires { turn_of self.old.standing ≡ Some Turn.Need }
         ensures who { made_who self.old.history (next_of self.old.script self.old.history) ≡ Some result }
@@ -185,7 +178,7 @@ impl Core {
         self.world.made()
     }
 
-    /// The needed object is declined. Takes no memory.
+    /// Records that the needed object is declined. Requires that an object is needed. Allocates no memory.
     pub fn declined(&mut self)
         requires { turn_of self.old.standing ≡ Some Turn.Need }
         ensures entry { IfSome (declined_in (next_of self.old.script self.old.history)) (λ entry. self.new ≡ core_after entry self.old) }
@@ -195,19 +188,23 @@ impl Core {
         self.world.declined();
     }
 
-    /// The answer that was asked for. `Memory` where memory is refused, and the machine has failed then.
+    /// Records the answer to the pending call. Requires that an answer is requested. Errors: `Memory` (out of memory); the core has failed
+    /// then.
     pub fn heard(&mut self, acts: Acts) -> Result<(), CoreFault>
         requires { IsAsk (turn_of self.old.standing) }
         ensures ok { OnOk result (IfSome (answer_in self.old.standing acts) (λ entry. self.new ≡ core_after entry self.old)) }
         ensures err { IfErr result (λ fault. (fault ≡ CoreFault.Memory) × (self.new ≡ failed_from Health.Broken self.old)) }
     {
-        let Some(question) = &self.question else {
+        let Some(pending_call) = &self.pending_call else {
             unreachable!()
         };
-        let entered = self
-            .world
-            .heard(question.who, &question.call, question.origin, acts);
-        self.question = None;
+        let entered = self.world.heard(
+            pending_call.who,
+            &pending_call.call,
+            pending_call.origin,
+            acts,
+        );
+        self.pending_call = None;
         match entered {
             Ok(()) => {
                 self.told = 0;
@@ -220,28 +217,28 @@ impl Core {
         }
     }
 
-    /// The present time in ticks. 0 once memory was refused.
+    /// Returns the current time in ticks, or 0 after an out-of-memory error.
     pub fn now(&self) -> u64
         ensures { result ≡ (if is_sound self.now.health then now_of self.now.history else 0) }
     {
         if !self.is_sound() {
             return 0;
         }
-        told::now(&self.world)
+        status::now(&self.world)
     }
 
-    /// The phase that was begun last and has not ended, if one is in progress: between two run-time phases that is run (Clause 9). None once
-    /// memory was refused.
+    /// Returns the active phase that began last, or `None` if no phase is active. Between two run-time phases this is the run phase (Clause
+    /// 9). Returns `None` after an out-of-memory error.
     pub fn phase(&self) -> Option<Phase>
         ensures { result ≡ (if is_sound self.now.health then running (stage_of self.now.history) else None) }
     {
         if !self.is_sound() {
             return None;
         }
-        told::phase(&self.world)
+        status::phase(&self.world)
     }
 
-    /// Returns a reference to the log, which is legal at every moment. Its limit is that of the script's version.
+    /// Returns a reference to the log, which is always legal. Its limit in entries is that of the script's version.
     pub fn log(&self) -> &Log
         ensures entries { result.now.entries ≡ self.now.history }
         ensures legal { IsLegal self.now.script self.now.history }
@@ -250,88 +247,89 @@ impl Core {
         self.world.log()
     }
 
-    /// Whether the run is over: the newest entry of the log is its end. Also told once memory was refused.
+    /// Returns whether the run has ended: the newest entry of the log is its end. Still answers after an out-of-memory error.
     pub fn is_over(&self) -> bool
         ensures { result ≡ is_over self.now.history }
     {
         matches!(self.world.log().last(), Some(Entry::Over(_)))
     }
 
-    /// The path of a node, the top's own included. None where there is no such node, or once memory was refused.
+    /// Returns the path of a node, including the root. Returns `None` if there is no such node, or after an out-of-memory error.
     pub fn path(&self, node: NodeId) -> Option<&Path>
         ensures { option_copied result ≡ (if is_sound self.now.health then option_map (λ node. node.path) (node_at (nodes_of self.now.history) node) else None) }
     {
         if !self.is_sound() {
             return None;
         }
-        lent::tree(&self.world).path(node)
+        services::tree(&self.world).path(node)
     }
 
-    /// The node at a path, the top at its own. None once memory was refused.
+    /// Returns the node at a path, including the root. Returns `None` if there is no such node, or after an out-of-memory error.
     pub fn find(&self, path: &Path) -> Option<NodeId>
         ensures { result ≡ (if is_sound self.now.health then number_at (nodes_of self.now.history) path.now else None) }
     {
         if !self.is_sound() {
             return None;
         }
-        lent::tree(&self.world).find(path)
+        services::tree(&self.world).find(path)
     }
 
-    /// The value that a field has at a path, if it has one (IEEE 1800.2-2020, Annex C). None once memory was refused.
+    /// Returns the value of a field at a path (IEEE 1800.2-2020, Annex C). Returns `None` if it has none, or after an out-of-memory error.
     pub fn config(&self, path: &Path, field: &Name) -> Option<i64>
         ensures { result ≡ (if is_sound self.now.health then config_answer (settings_of self.now.script self.now.history) (path_text path.now) field.now else None) }
     {
         if !self.is_sound() {
             return None;
         }
-        told::config(&self.world, path, field)
+        status::config(&self.world, path, field)
     }
 
-    /// The count of objections to the end of run that stands at a node and below it, with what is held back below it (10.5). 0 where
-    /// there is no such node, and once memory was refused.
+    /// Returns the count of objections to the end of the run phase that are raised at a node and below it. The count includes those below
+    /// it that are delayed by the drain time (10.5). Returns 0 if there is no such node, or after an out-of-memory error.
     pub fn total(&self, node: NodeId) -> u64
         ensures { result ≡ (if is_sound self.now.health && nat_lt node (length (nodes_of self.now.history)) then total (objections_of self.now.script Run self.now.history) node else 0) }
     {
         self.total_in(Phase::Run, node)
     }
 
-    /// The count of objections to the end of a phase that stands at a node and below it, with what is held back below it (10.5). 0 for a
-    /// phase that takes no time, where there is no such node, and once memory was refused. Takes no memory.
+    /// Returns the count of objections to the end of a phase that are raised at a node and below it. The count includes those below it that
+    /// are delayed by the drain time (10.5). Returns 0 for a phase that takes no time, if there is no such node, or after an out-of-memory
+    /// error. Allocates no memory.
     pub fn total_in(&self, phase: Phase, node: NodeId) -> u64
         ensures { result ≡ (if is_sound self.now.health && is_task phase && nat_lt node (length (nodes_of self.now.history)) then total (objections_of self.now.script phase self.now.history) node else 0) }
     {
         if !self.is_sound() {
             return 0;
         }
-        told::total_in(&self.world, phase, node)
+        status::total_in(&self.world, phase, node)
     }
 
-    /// How many puts, takes and peeks wait at a FIFO (Clause 12), or item requests and locks at a sequencer (Clause 15). 0 at every
-    /// other node, and once memory was refused.
+    /// Returns how many puts, gets and peeks wait at a FIFO (Clause 12), or item requests and locks at a sequencer (Clause 15). Returns 0
+    /// for every other node, or after an out-of-memory error.
     pub fn waiting(&self, node: NodeId) -> usize
         ensures { result ≡ (if is_sound self.now.health then waiters_at self.now.history node else 0) }
     {
         if !self.is_sound() {
             return 0;
         }
-        told::waiting(&self.world, node)
+        status::waiting(&self.world, node)
     }
 
-    /// The report server (Clause 6). None once memory was refused.
+    /// Returns the report server (Clause 6), or `None` after an out-of-memory error.
     pub fn reports(&self) -> Option<&Reports>
-        ensures given { IfSome result (λ reports. Gives reports.now (report_commands self.now.script self.now.history)) }
+        ensures given { IfSome result (λ reports. ReportsAgree reports.now (report_commands self.now.script self.now.history)) }
         ensures variant { is_some result ≡ is_sound self.now.health }
     {
         if !self.is_sound() {
             return None;
         }
-        Some(lent::reports(&self.world))
+        Some(services::reports(&self.world))
     }
 
-    /// Appends the text of the newest entry: its line, where `trace` asks for it and there is one, and the line of its report,
-    /// where it has one that is displayed; nothing where memory is refused, or was. It is not refused where the text is empty.
-    /// The text is whole lines of a transcript: each is printed, and begins neither with `!` nor with `?`.
-    /// Where `out` is empty, the line of the entry is built in it, and in a vector of its own where it is not.
+    /// Appends the text of the newest entry: its line if `trace` is true, and the line of its report if it has one that is displayed. The
+    /// text is whole transcript lines. Their bytes are printable, and no line begins with `!` or `?`. If `out` is empty, the line
+    /// of the entry is built in it, otherwise in a vector of its own. After an out-of-memory error of the core nothing is appended. Errors:
+    /// out of memory, only if there is text to append. An error appends nothing.
     #[tactic(auto, using(crate::proofs::Shown::some_in_front, crate::proofs::Shown::some_behind, crate::proofs::Shown::plain))]
     pub fn last_text(&self, trace: bool, out: &mut Vec<u8>) -> Result<(), AllocError>
         ensures ok { OnOk result (out.new.items ≡ out.old.items ++ (if is_sound self.now.health then last_text trace self.now.script self.now.history else [])) }
@@ -345,15 +343,15 @@ impl Core {
         let before = out.len();
         self.push_last_line(trace, out)?;
         let pushed = report_lines::push_report(&self.world, out);
-        // The line is taken back where that of its report has no memory.
+        // If an allocation for the line of the report fails, the line of the entry is removed.
         if pushed.is_err() {
             out.truncate(before);
         }
         pushed
     }
 
-    /// Returns the text of a component or a sequence, as the lines of entries show it; an empty text once memory ran out. Its bytes are
-    /// printed. Errors: out of memory.
+    /// Returns the text of a component or a sequence, as the lines of entries show it. Its bytes are printable. The text is empty
+    /// after an out-of-memory error of the core. Errors: out of memory.
     pub fn who_text(&self, alloc: Global, who: &Who) -> Result<Vec<u8>, AllocError>
         ensures printed { IfOk result (λ text. IsPrinted text.items) }
         ensures text { IfOk result (λ text. text.items ≡ (if is_sound self.now.health then who_text (nodes_of self.now.history) (sequences_of self.now.history) who.now else [])) }
@@ -364,12 +362,12 @@ impl Core {
         who_text(
             alloc,
             who,
-            lent::tree(&self.world),
-            lent::sequences(&self.world),
+            services::tree(&self.world),
+            services::sequences(&self.world),
         )
     }
 
-    // The line of the newest entry, where it is asked for and there is one.
+    // Appends the line of the newest entry, if `trace` is true and there is one.
     #[tactic(auto, using(crate::proofs::Shown::line_some, crate::proofs::Shown::plain))]
     fn push_last_line(&self, trace: bool, text: &mut Vec<u8>) -> Result<(), AllocError>
         requires { is_sound self.now.health ≡ true }
@@ -382,8 +380,8 @@ impl Core {
             Some(entry) if trace => {
                 line_of(
                     entry,
-                    lent::tree(&self.world),
-                    lent::sequences(&self.world),
+                    services::tree(&self.world),
+                    services::sequences(&self.world),
                     text,
                 )
             }
@@ -391,7 +389,7 @@ impl Core {
         }
     }
 
-    // Whether what is kept is what the log says.
+    // Returns whether the services agree with the log.
     fn is_sound(&self) -> bool
         ensures { result ≡ is_sound self.now.health }
     {
@@ -401,7 +399,7 @@ impl Core {
         }
     }
 
-    // The next of the sequences that have ended, which is told now.
+    // Returns the next ended sequence that was not reported yet, and counts it as reported.
     fn tell_next(&mut self) -> Option<Who>
         ensures none { IfNone result ((self.old.leaving ≡ []) × (self.new ≡ self.old)) }
         ensures some { IfSome result (λ who. self.old.leaving ≡ who ∷ self.new.leaving) }
@@ -415,7 +413,7 @@ impl Core {
         Some(who)
     }
 
-    // What was asked is told again, or what comes next is done.
+    // Repeats the open request, or performs the next step.
     fn turn_on<R: Rng>(&mut self, words: &mut R) -> Result<Turn, CoreFault>
         requires { self.old.leaving ≡ [] }
         ensures turn { IsNextTurn self.old.standing result self.old self.new }
@@ -424,7 +422,7 @@ impl Core {
         ensures room { IfOk result (λ turn. IsRequest turn → length self.new.history < log_limit self.new.script) }
         ensures words { IsDrawing R.stream (drawn_by self.new.history) result words.old words.new }
     {
-        // The log is legal, so whoever is asked is there, and a run goes on to its end.
+        // The log is legal, so the component or sequence that is called exists, and a run goes on to its end.
         let _log = self.log();
         laws::asked_are_there();
         laws::something_before_over();
@@ -437,7 +435,7 @@ impl Core {
         }
     }
 
-    // Does what comes next, or gives up.
+    // Performs the next step, or fails because the log is full.
     fn go_on<R: Rng>(&mut self, words: &mut R) -> Result<Turn, CoreFault>
         requires standing { self.old.standing ≡ Nothing }
         requires health { self.old.health ≡ Health.Good }
@@ -453,9 +451,8 @@ impl Core {
             return Err(CoreFault::LogFull);
         }
         match self.advance(words) {
-            Ok(Progress::Over) => Ok(Turn::Over),
-            Ok(Progress::Moved) => Ok(Turn::Moved),
-            Ok(Progress::Asked) => match self.turn() {
+            Ok(Some(turn)) => Ok(turn),
+            Ok(None) => match self.turn() {
                 Some(turn) => Ok(turn),
                 None => unreachable!(),
             },
@@ -463,72 +460,72 @@ impl Core {
         }
     }
 
-    // Does what comes next.
-    fn advance<R: Rng>(&mut self, words: &mut R) -> Result<Progress, AllocError>
+    // Performs the next action of the kernel, and returns its turn; returns `None` if it opens a request.
+    fn advance<R: Rng>(&mut self, words: &mut R) -> Result<Option<Turn>, AllocError>
         requires standing { self.old.standing ≡ Nothing }
         requires health { self.old.health ≡ Health.Good }
         requires told { self.old.leaving ≡ [] }
         requires room { length self.old.history < log_limit self.old.script }
-        ensures ok { IfOk result (λ progress. IsTurn (next_of self.old.script self.old.history) (turn_after progress self.new.standing) self.old self.new) }
-        ensures asked { IfOk result (λ progress. progress ≡ Progress.Asked → AsksSomething self.new.standing) }
+        ensures ok { IfOk result (λ made. IsTurn (next_of self.old.script self.old.history) (turn_after made self.new.standing) self.old self.new) }
+        ensures asked { IfOk result (λ made. made ≡ None → AsksSomething self.new.standing) }
         ensures err { OnErr result (self.new ≡ failed_from Health.Broken self.old) }
-        ensures words { IfOk result (λ progress. IsDrawn R.stream (drawn_by self.new.history (turn_after progress self.new.standing)) words.old words.new) }
+        ensures words { IfOk result (λ made. IsDrawn R.stream (drawn_by self.new.history (turn_after made self.new.standing)) words.old words.new) }
         ensures lost { OnErr result (DrawsOne R.stream words.old words.new) }
     {
         self.health = Health::Broken;
-        let progress = match choose(&mut self.world, &mut self.question)? {
-            Choice::Nothing => Progress::Over,
-            Choice::Enter(mark) => {
-                self.world.enter(mark)?;
+        let made = match choose(&mut self.world, &mut self.pending_call)? {
+            NextAction::Nothing => Some(Turn::Over),
+            NextAction::Enter(kernel_entry) => {
+                self.world.enter(kernel_entry)?;
                 self.told = 0;
-                Progress::Moved
+                Some(Turn::Moved)
             }
-            Choice::Grant(sequencer, drawn) => {
+            NextAction::Grant(sequencer, drawn) => {
                 grant(&mut self.world, sequencer, drawn, words)?;
                 self.told = 0;
-                Progress::Moved
+                Some(Turn::Moved)
             }
-            Choice::Pass => {
+            NextAction::Pass => {
                 pass(&mut self.world)?;
                 self.told = 0;
-                Progress::Moved
+                Some(Turn::Moved)
             }
-            Choice::Act => {
+            NextAction::Act => {
                 self.world.did()?;
                 if self.world.need().is_some() {
-                    Progress::Asked
+                    None
                 } else {
                     self.told = 0;
-                    Progress::Moved
+                    Some(Turn::Moved)
                 }
             }
-            Choice::Ask => Progress::Asked,
+            NextAction::Ask => None,
         };
         self.health = Health::Good;
-        Ok(progress)
+        Ok(made)
     }
 }
 
-// What somebody waits for at a FIFO comes to pass. (Not inlined, so that no other turn has room for a passage.)
+// Performs the next transfer at a FIFO. (Not inlined, so that no other step needs stack space for a `Passage`.)
 #[inline(never)]
 fn pass(world: &mut World) -> Result<(), AllocError>
     requires sound { world.old.sound ≡ true }
     requires room { length world.old.history < log_limit world.old.script }
-    requires next { IsChoice (next_of world.old.script world.old.history) None Choice.Pass }
+    requires next { IsNextAction (next_of world.old.script world.old.history) None NextAction.Pass }
     ensures entered { OnOk result (HasEntered world.old world.new) }
     ensures sound { OnOk result (world.new.sound ≡ true) }
-    ensures settled { OnOk result (world.new.waiting ≡ None) }
+    ensures settled { OnOk result (world.new.pending ≡ None) }
     ensures err { OnErr result (world.new ≡ broken world.old) }
 {
-    // It is the first FIFO at which something can.
+    // It is the first FIFO at which a request that waits can complete.
     laws::passages_go_in_order();
-    let Some((fifo, passage)) = upcoming::next_passed(world) else {
+    let Some((fifo, passage)) = next::next_passed(world) else {
         unreachable!()
     };
     world.passed(fifo, passage)
 }
 
-// Grants an item at a sequencer, by a word where one decides. (Not inlined, so that no other turn has room for it.)
+// Grants an item at a sequencer, by a random number if one decides. (Not inlined, so that no other step needs stack space for it.)
 #[inline(never)]
 fn grant<R: Rng>(
     world: &mut World,
@@ -538,10 +535,10 @@ fn grant<R: Rng>(
 ) -> Result<(), AllocError>
     requires sound { world.old.sound ≡ true }
     requires room { length world.old.history < log_limit world.old.script }
-    requires next { IsChoice (next_of world.old.script world.old.history) None (Choice.Grant sequencer drawn) }
+    requires next { IsNextAction (next_of world.old.script world.old.history) None (NextAction.Grant sequencer drawn) }
     ensures entered { OnOk result (HasEntered world.old world.new) }
     ensures sound { OnOk result (world.new.sound ≡ true) }
-    ensures settled { OnOk result (world.new.waiting ≡ None) }
+    ensures settled { OnOk result (world.new.pending ≡ None) }
     ensures words { OnOk result (IsDrawn R.stream (word_in world.new.history) words.old words.new) }
     ensures err { OnErr result (world.new ≡ broken world.old) }
     ensures lost { OnErr result (DrawsOne R.stream words.old words.new) }
@@ -552,7 +549,7 @@ fn grant<R: Rng>(
     world.granted(sequencer, word)
 }
 
-// A word, where one decides.
+// Returns a random number, if one decides.
 fn draw<R: Rng>(words: &mut R, drawn: bool) -> Option<u64>
     ensures word { is_some result ≡ drawn }
     ensures words { IsDrawn R.stream result words.old words.new }
@@ -560,7 +557,7 @@ fn draw<R: Rng>(words: &mut R, drawn: bool) -> Option<u64>
     if drawn { Some(words.next_u64()) } else { None }
 }
 
-// Whether the run is over.
+// Returns whether the run has ended.
 fn is_over(world: &World) -> bool
     requires { world.now.sound ≡ true }
     ensures over { OnTrue result (next_of world.now.script world.now.history ≡ comes.Nothing) }

@@ -1,18 +1,18 @@
-//! Why the machine does not go on.
+//! The errors of a core.
 
 use std::error::Error;
 use std::fmt;
 
-/// Why the machine does not begin or go on.
+/// The error of a core that cannot begin or go on.
 #[derive(Clone, Copy, Debug, PartialEq, Eq)]
 pub enum CoreFault {
-    /// Memory was refused.
+    /// Out of memory.
     Memory,
-    /// The log has as many entries as it may have, and one more would be next.
+    /// A log with as many entries as it may have, when another entry would come next.
     LogFull,
-    /// An earlier call answered `Memory` or `LogFull`.
+    /// An earlier call that returned `Memory` or `LogFull`.
     Failed,
-    /// The script has no test.
+    /// A script without a test.
     NoTest,
 }
 

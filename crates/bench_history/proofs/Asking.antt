@@ -1,41 +1,10 @@
 -- Who waits at FIFOs, and who owns imps, are components.
-use Rattle.std.proofs.Common.{◌≡◌, ℕ, suc, zero, ◌<◌, ◌==◌, ◌⊎◌, inl, inr, nat_eq, Bool, true, false, not, ◌&&◌, List, [], ◌∷◌, ◌++◌, length, map, filter, slice_get, Option, Some, None, option_map, option_and_then, IfSome, refl, arith, length-append, if◌then◌else◌}
-use Rattle.std.specs.List.{All, Contains, filter_map, cons_option, list_any}
-use Rattle.std.proofs.lemmas.Bool.Decides.{nat_tests}
-use Rattle.std.proofs.lemmas.List.Elements.{All-nil, All-cons, All-head, All-tail, All-push, All-filter, All-weaker, filter_passes}
-use Rattle.uvm_glob.specs.Lists.{first_given}
-use Rattle.uvm_phase.specs.declared.phases.Phase.{Phase}
-use Rattle.uvm_phase.specs.Phases.{same_phase}
-use Rattle.uvm_tree.specs.Nodes.{Node, under_at}
-use Rattle.uvm_tree.specs.Sorted.{path_order}
-use Rattle.uvm_tlm.specs.declared.ends.PortKind.{PortKind}
-use Rattle.uvm_tlm.specs.declared.fifos.Move.{Move}
-use Rattle.uvm_tlm.specs.declared.fifos.MoveKind.{MoveKind}
+use Rattle.bench_history.proofs.Common.{◌≡◌, ℕ, suc, zero, ◌<◌, ◌==◌, ◌⊎◌, inl, inr, nat_eq, Bool, true, false, not, ◌&&◌, List, [], ◌∷◌, ◌++◌, length, map, filter, Option, Some, None, option_map, option_and_then, IfSome, refl, arith, if◌then◌else◌, cons_option, list_any, nat_tests, All-nil, All-cons, All-head, All-tail, All-push, All-filter, All-weaker, filter_passes, first_given, Phase, same_phase, under_at, path_order, PortKind, Move, MoveKind, Item, next_move, WiringValue, node_of, Who, Act, Add, Outcome, Done, Passage, Entry, ScriptValue, Requester, FifoPort, nodes_of, nodes_after, test_creation, act_phase, ended_of, wiring_of, wiring_after, with_both, end_of, fifo_size, is_imp_at, fifo_port_below, IsComponent, DueCall, written_to, call_in, is_open_to, FifoState, with_last, request_by, request_at, answered_at, is_put, is_no_put, puts_asked, takes_asked, puts_waiting, takes_waiting, is_waiting, fifo_state_of, first_requester, passage_by, passage_in, passing_at, next_passed, slice_get, length-append, All, Contains, filter_map, Node}
 use Rattle.uvm_tlm.specs.declared.fifos.MoveKind.TheVariants as move
-use Rattle.uvm_tlm.specs.declared.items.Item.{Item}
-use Rattle.uvm_tlm.specs.Fifos.{next_move}
-use Rattle.uvm_tlm.specs.Wirings.{WiringValue}
-use Rattle.uvm_acts.specs.Acts.{node_of}
-use Rattle.uvm_acts.specs.declared.acts.Who.{Who}
 use Rattle.uvm_acts.specs.declared.acts.Who.TheVariants as who
 use Rattle.uvm_acts.specs.declared.acts.Call.TheVariants as call
-use Rattle.uvm_acts.specs.declared.acts.Act.{Act}
-use Rattle.uvm_acts.specs.declared.acts.Act.TheVariants.{Add, Connect}
-use Rattle.uvm_object.specs.declared.entries.Outcome.{Outcome}
-use Rattle.uvm_object.specs.declared.entries.Outcome.TheVariants.{Done}
-use Rattle.uvm_object.specs.declared.entries.Passage.{Passage}
-use Rattle.uvm_object.specs.declared.entries.Entry.{Entry}
-use Rattle.bench_script.specs.Scripts.{ScriptValue}
-use Rattle.bench_history.specs.declared.askers.Asker.{Asker}
-use Rattle.bench_history.specs.declared.askers.Gate.{Gate}
-use Rattle.bench_history.specs.History.{nodes_of, nodes_after, opening, act_phase, ended_of}
-use Rattle.bench_history.specs.Wires.{wiring_of, wiring_after, with_both, end_of}
-use Rattle.bench_history.specs.Ports.{fifo_size, is_imp_at, gate_below}
-use Rattle.bench_history.specs.Laws.{IsComponent}
-use Rattle.bench_history.specs.declared.owners.Told.{Told}
-use Rattle.bench_history.specs.Dues.{written_to, told_in}
-use Rattle.bench_history.specs.Refusals.{is_open_to}
-use Rattle.bench_history.specs.Passing.{Request, Station, with_last, request_by, request_at, answered_at, is_put, is_no_put, puts_asked, takes_asked, puts_waiting, takes_waiting, is_waiting, station_of, first_asker, passage_by, passage_in, passing_at, next_passed}
+use Rattle.uvm_acts.specs.declared.acts.Act.TheVariants.{Connect}
+use Rattle.bench_history.specs.Passing.{Request}
 
 -- what holds of each element holds of the first
 pub head-holds : {A : Type 0} (P : A → Type 0) (xs : List A) → All P xs → IfSome (slice_get xs 0) P
@@ -64,48 +33,48 @@ given-holds f P [] each = tt
 given-holds f P (x ∷ xs) each = first-holds P (f x) (map f xs) (each x) (given-holds f P xs each)
 
 -- a request is its performer's
-module _ {Wish : Type 0} (Q : Who → Phase → Type 0) where
-  abbrev pub IsAskedBy : Request Wish → Type 0
-  IsAskedBy request = Q request.asker.who request.asker.phase
+module _ {Payload : Type 0} (Q : Who → Phase → Type 0) where
+  abbrev pub IsAskedBy : Request Payload → Type 0
+  IsAskedBy request = Q request.requester.who request.requester.phase
 
-  request-holds : (fifo : ℕ) (performer : Who) (place : ℕ) (wished : List ℕ × Wish) (phase : Option Phase) (gate : Option Gate) → ((p : Phase) → phase ≡ Some p → Q performer p) → IfSome (request_by fifo performer place wished phase gate) IsAskedBy
-  request-holds fifo performer place wished None gate holds = tt
+  request-holds : (fifo : ℕ) (performer : Who) (place : ℕ) (wished : List ℕ × Payload) (phase : Option Phase) (fifo_port : Option FifoPort) → ((p : Phase) → phase ≡ Some p → Q performer p) → IfSome (request_by fifo performer place wished phase fifo_port) IsAskedBy
+  request-holds fifo performer place wished None fifo_port holds = tt
   request-holds fifo performer place wished (Some phase) None holds = tt
-  request-holds fifo performer place wished (Some phase) (Some gate) holds = tested (gate.fifo == fifo)
+  request-holds fifo performer place wished (Some phase) (Some fifo_port) holds = tested (fifo_port.fifo == fifo)
     where
-      tested : (b : Bool) → IfSome (if b then Some (record { asker = record { place = place; who = performer; port = wished.0; phase = phase }; port = gate.port; wish = wished.1 }) else None) IsAskedBy
+      tested : (b : Bool) → IfSome (if b then Some (record { requester = record { place = place; who = performer; port = wished.0; phase = phase }; port = fifo_port.port; wish = wished.1 }) else None) IsAskedBy
       tested true = holds phase refl
       tested false = tt
 
-  -- so that one more keeps each one somebody's
+  -- so that one more keeps each one that of a component or sequence
   pub asked-more :
-      (before : List Entry) (fifo : ℕ) (performer : Who) (kind : PortKind) (wished : Option (List ℕ × Wish)) (asked : List (Request Wish)) → All IsAskedBy asked → (wished ≡ None) ⊎ ((p : Phase) → act_phase before ≡ Some p → Q performer p)
+      (before : List Entry) (fifo : ℕ) (performer : Who) (kind : PortKind) (wished : Option (List ℕ × Payload)) (asked : List (Request Payload)) → All IsAskedBy asked → (wished ≡ None) ⊎ ((p : Phase) → act_phase before ≡ Some p → Q performer p)
       → All IsAskedBy (with_last asked (option_and_then (request_at before fifo performer kind) wished))
   asked-more before fifo performer kind None asked all who = all
   asked-more before fifo performer kind (Some wished) asked all (inl none) = cc
   asked-more before fifo performer kind (Some wished) asked all (inr holds) =
-      last-holds IsAskedBy asked (request_at before fifo performer kind wished) all (request-holds fifo performer (length before) wished (act_phase before) (gate_below before performer kind wished.0) holds)
+      last-holds IsAskedBy asked (request_at before fifo performer kind wished) all (request-holds fifo performer (length before) wished (act_phase before) (fifo_port_below before performer kind wished.0) holds)
 
   -- and each of those that wait is
-  askers-hold : (requests : List (Request Wish)) → All IsAskedBy requests → All (λ asker. Q asker.who asker.phase) (map (λ request. request.asker) requests)
-  askers-hold [] all = All-nil _
-  askers-hold (request ∷ requests) all = All-cons (λ asker. Q asker.who asker.phase) _ _ (All-head IsAskedBy request requests all) (askers-hold requests (All-tail IsAskedBy request requests all))
+  requesters-hold : (requests : List (Request Payload)) → All IsAskedBy requests → All (λ requester. Q requester.who requester.phase) (map (λ request. request.requester) requests)
+  requesters-hold [] all = All-nil _
+  requesters-hold (request ∷ requests) all = All-cons (λ requester. Q requester.who requester.phase) _ _ (All-head IsAskedBy request requests all) (requesters-hold requests (All-tail IsAskedBy request requests all))
 
--- what passes is somebody's who had asked
+-- what passes is that of one that had asked
 module _ (Q : Who → Phase → Type 0) where
-  asker-holds : (kind : MoveKind) (station : Station) → All (λ asker. Q asker.who asker.phase) station.putters → All (λ asker. Q asker.who asker.phase) station.takers → IfSome (first_asker kind station) (λ asker. Q asker.who asker.phase)
-  asker-holds move.Put station putters takers = head-holds (λ (asker : Asker). Q asker.who asker.phase) station.putters putters
-  asker-holds kind station putters takers = head-holds (λ (asker : Asker). Q asker.who asker.phase) station.takers takers
+  requester-holds : (kind : MoveKind) (fifo_state : FifoState) → All (λ requester. Q requester.who requester.phase) fifo_state.putters → All (λ requester. Q requester.who requester.phase) fifo_state.takers → IfSome (first_requester kind fifo_state) (λ requester. Q requester.who requester.phase)
+  requester-holds move.Put fifo_state putters takers = head-holds (λ (requester : Requester). Q requester.who requester.phase) fifo_state.putters putters
+  requester-holds kind fifo_state putters takers = head-holds (λ (requester : Requester). Q requester.who requester.phase) fifo_state.takers takers
 
-  passage-holds : (station : Station) → All (λ asker. Q asker.who asker.phase) station.putters → All (λ asker. Q asker.who asker.phase) station.takers → IfSome (passage_in station) (λ passage. Q passage.who passage.phase)
-  passage-holds station putters takers = then-holds (λ move. option_map (passage_by move) (first_asker move.kind station)) (λ (passage : Passage). Q passage.who passage.phase) (next_move station.fifo) (λ move. mapped move (first_asker move.kind station) (asker-holds move.kind station putters takers))
+  passage-holds : (fifo_state : FifoState) → All (λ requester. Q requester.who requester.phase) fifo_state.putters → All (λ requester. Q requester.who requester.phase) fifo_state.takers → IfSome (passage_in fifo_state) (λ passage. Q passage.who passage.phase)
+  passage-holds fifo_state putters takers = then-holds (λ move. option_map (passage_by move) (first_requester move.kind fifo_state)) (λ (passage : Passage). Q passage.who passage.phase) (next_move fifo_state.fifo) (λ move. mapped move (first_requester move.kind fifo_state) (requester-holds move.kind fifo_state putters takers))
     where
-      mapped : (move : Move) (asker : Option Asker) → IfSome asker (λ asker. Q asker.who asker.phase) → IfSome (option_map (passage_by move) asker) (λ passage. Q passage.who passage.phase)
+      mapped : (move : Move) (requester : Option Requester) → IfSome requester (λ requester. Q requester.who requester.phase) → IfSome (option_map (passage_by move) requester) (λ passage. Q passage.who passage.phase)
       mapped move None holds = tt
-      mapped move (Some asker) holds = holds
+      mapped move (Some requester) holds = holds
 
   pub passing-holds :
-      (history : List Entry) → ((fifo : ℕ) → All (IsAskedBy {Wish = Item} Q) (puts_waiting history fifo)) → ((fifo : ℕ) → All (IsAskedBy {Wish = Bool} Q) (takes_waiting history fifo))
+      (history : List Entry) → ((fifo : ℕ) → All (IsAskedBy {Payload = Item} Q) (puts_waiting history fifo)) → ((fifo : ℕ) → All (IsAskedBy {Payload = Bool} Q) (takes_waiting history fifo))
       → IfSome (next_passed history) (λ passed. Q passed.1.who passed.1.phase)
   unfolding next_passed
   passing-holds history puts takes = given-holds (passing_at history) (λ (passed : ℕ × Passage). Q passed.1.who passed.1.phase) (path_order (nodes_of history)) (λ node. sized node (fifo_size (wiring_of history) node))
@@ -114,23 +83,23 @@ module _ (Q : Who → Phase → Type 0) where
       found node None holds = tt
       found node (Some passage) holds = holds
 
-      sized : (node : ℕ) (size : Option ℕ) → IfSome {T = ℕ × Passage} (option_map (λ (passage : Passage). (node, passage)) (option_and_then passage_in (option_map (station_of history node) size))) (λ passed. Q passed.1.who passed.1.phase)
+      sized : (node : ℕ) (size : Option ℕ) → IfSome {T = ℕ × Passage} (option_map (λ (passage : Passage). (node, passage)) (option_and_then passage_in (option_map (fifo_state_of history node) size))) (λ passed. Q passed.1.who passed.1.phase)
       sized node None = tt
-      sized node (Some size) = found node (passage_in (station_of history node size)) (passage-holds (station_of history node size) (askers-hold Q (puts_waiting history node) (puts node)) (askers-hold Q (takes_waiting history node) (takes node)))
+      sized node (Some size) = found node (passage_in (fifo_state_of history node size)) (passage-holds (fifo_state_of history node size) (requesters-hold Q (puts_waiting history node) (puts node)) (requesters-hold Q (takes_waiting history node) (takes node)))
 
 -- what holds of all that was asked for holds of what waits
 module _ (Q : Who → Phase → Type 0) (history : List Entry) (fifo : ℕ) where
-  pub puts-wait : All (IsAskedBy {Wish = Item} Q) (puts_asked history fifo) → All (IsAskedBy {Wish = Item} Q) (puts_waiting history fifo)
+  pub puts-wait : All (IsAskedBy {Payload = Item} Q) (puts_asked history fifo) → All (IsAskedBy {Payload = Item} Q) (puts_waiting history fifo)
   puts-wait all = All-filter (is_waiting (answered_at is_put history fifo) (ended_of history)) (IsAskedBy Q) (puts_asked history fifo) all
 
-  pub takes-wait : All (IsAskedBy {Wish = Bool} Q) (takes_asked history fifo) → All (IsAskedBy {Wish = Bool} Q) (takes_waiting history fifo)
+  pub takes-wait : All (IsAskedBy {Payload = Bool} Q) (takes_asked history fifo) → All (IsAskedBy {Payload = Bool} Q) (takes_waiting history fifo)
   takes-wait all = All-filter (is_waiting (answered_at is_no_put history fifo) (ended_of history)) (IsAskedBy Q) (takes_asked history fifo) all
 
 -- its phase has not ended
-waiting-open : {Wish : Type 0} (answered : List ℕ) (ended : List Phase) (asked : List (Request Wish)) → All (IsAskedBy (λ who phase. list_any (same_phase phase) ended ≡ false)) (filter (is_waiting answered ended) asked)
+waiting-open : {Payload : Type 0} (answered : List ℕ) (ended : List Phase) (asked : List (Request Payload)) → All (IsAskedBy (λ who phase. list_any (same_phase phase) ended ≡ false)) (filter (is_waiting answered ended) asked)
 waiting-open answered ended asked =
     All-weaker (λ request. is_waiting answered ended request ≡ true) (IsAskedBy (λ who phase. list_any (same_phase phase) ended ≡ false))
-    (λ request waits. second (not (list_any (nat_eq request.asker.place) answered)) (list_any (same_phase request.asker.phase) ended) waits) _ (filter_passes (is_waiting answered ended) asked)
+    (λ request waits. second (not (list_any (nat_eq request.requester.place) answered)) (list_any (same_phase request.requester.phase) ended) waits) _ (filter_passes (is_waiting answered ended) asked)
   where
     second : (a b : Bool) → a && not b ≡ true → b ≡ false
     second true true e = cc
@@ -150,7 +119,7 @@ pub record IsOwned (nodes : List Node) (components : List ℕ) (node : ℕ) : Ty
 pub record IsAdded (nodes : List Node) (performer : Who) (outcome : Outcome) (act : Act) (node : ℕ) : Type 0 where
   pub below : node < length (nodes_after nodes performer outcome act)
   pub under : IfSome (under_at (nodes_after nodes performer outcome act) node) (λ under. under.0 ≡ node_of performer)
-  pub other : (script : ScriptValue) → act ≡ opening script → ⊥
+  pub other : (script : ScriptValue) → act ≡ test_creation script → ⊥
   pub closed : (id home : ℕ) → is_open_to act (who.Sequence home id) ≡ false
   pub done : outcome ≡ Done
 
@@ -187,10 +156,10 @@ pub written-hold :
     → All (λ told. IsComponent components told.who) (filter_map (written_to phase nodes item) (filter (is_imp_at wiring) outlets))
 written-hold phase nodes components item wiring outlets owned = each (filter (is_imp_at wiring) outlets) (filter_passes (is_imp_at wiring) outlets)
   where
-    IsTold : Told → Type 0
+    IsTold : DueCall → Type 0
     IsTold told = IsComponent components told.who
 
-    told : (under : Option (ℕ × List ℕ)) → IfSome under (λ under. Contains components under.0) → IfSome (option_map (λ under. told_in phase (who.Node under.0) (call.Written under.1 item)) under) IsTold
+    told : (under : Option (ℕ × List ℕ)) → IfSome under (λ under. Contains components under.0) → IfSome (option_map (λ under. call_in phase (who.Node under.0) (call.Written under.1 item)) under) IsTold
     told None holds = tt
     told (Some under) holds = holds
 

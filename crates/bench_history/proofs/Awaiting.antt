@@ -1,64 +1,27 @@
 -- While a driver waits, is granted a sequence or has an item in hand, the phase in which it asked runs.
-use Rattle.std.proofs.Common.{◌≡◌, ℕ, Bool, true, false, not, ◌==◌, List, [], ◌∷◌, Option, Some, None, is_some, option_and_then, refl, sym, ap, subst, ◌∙◌, if◌then◌else◌, ◌⊎◌, inl, inr}
-use Rattle.std.specs.Option.{option_map_or}
-use Rattle.uvm_glob.specs.Lists.{first_given}
-use Rattle.uvm_glob.specs.Faults.{fault_if}
-use Rattle.uvm_phase.specs.Laws.{OrderKeepsAll}
-use Rattle.uvm_phase.specs.declared.phases.Phase.{Phase}
-use Rattle.uvm_sequencer.specs.declared.drivers.How.{How}
-use Rattle.uvm_sequencer.specs.declared.drivers.Driver.{Driver}
+use Rattle.bench_history.proofs.Common.{◌≡◌, ℕ, Bool, true, false, not, ◌==◌, List, [], ◌∷◌, Option, Some, None, is_some, option_and_then, refl, sym, ap, subst, ◌∙◌, if◌then◌else◌, ◌⊎◌, inl, inr, option_map_or, first_given, fault_if, OrderKeepsAll, Phase, How, Driver, grant_of, granted_by, is_idle, left_by, kept_on, Who, Call, Act, Ask, ItemDone, Send, Fatal, NoPort, NotOpen, OutsideTask, Outcome, Done, Waits, Finished, Refused, Entry, Begin, Did, End, Granted, Over, ScriptValue, EventTarget, Ended, act_phase, in_progress, in_task, stage_of, sequences_of, is_live, asked_in, driver_requester, driver_state, leads_there, sent_by, sequence_on, sequencer_below, ends_ask, ask_refusal, driving_refusal, is_open_to, Effect, asked_effect, driven_at, has_candidate, unless_refused, effect_of, by_act, by_effect, next_of, Allows, IsNext, EachIsNext, list_any, same_phase, DriverPort, LockExcludes}
 use Rattle.uvm_sequencer.specs.declared.drivers.Driver.TheVariants as driver
-use Rattle.uvm_sequencer.specs.Drivers.{grant_of, granted_by, is_idle, left_by, kept_on}
-use Rattle.uvm_sequencer.specs.Laws.{LockExcludes}
-use Rattle.uvm_acts.specs.declared.acts.Who.{Who}
-use Rattle.uvm_acts.specs.declared.acts.Call.{Call}
-use Rattle.uvm_acts.specs.declared.acts.Act.{Act}
-use Rattle.uvm_acts.specs.declared.acts.Act.TheVariants.{Ask, ItemDone, Send}
-use Rattle.uvm_object.specs.declared.fatals.Fatal.{Fatal}
-use Rattle.uvm_object.specs.declared.fatals.Fatal.TheVariants.{NoPort, NotOpen, OutsideTask}
-use Rattle.uvm_object.specs.declared.entries.Outcome.{Outcome}
-use Rattle.uvm_object.specs.declared.entries.Outcome.TheVariants.{Done, Waits, Finished, Refused}
-use Rattle.uvm_object.specs.declared.entries.Entry.{Entry}
-use Rattle.uvm_object.specs.declared.entries.Entry.TheVariants.{Begin, Did, End, Granted, Over}
-use Rattle.bench_script.specs.Scripts.{ScriptValue}
-use Rattle.bench_history.specs.declared.owners.Owner.{Owner}
-use Rattle.bench_history.specs.declared.stages.Stage.TheVariants.{Ended}
-use Rattle.bench_history.specs.History.{act_phase, in_progress, in_task, speaker_of, stage_of}
-use Rattle.bench_history.specs.Sequences.{sequences_of, is_live}
-use Rattle.bench_history.specs.Arbitration.{asked_in, driver_asker, driver_state, leads_there, sent_by, sequence_on, sequencer_below, ends_ask}
-use Rattle.bench_history.specs.Refusals.{ask_refusal, driving_refusal, is_open_to}
-use Rattle.bench_history.specs.Upshots.{Upshot, asked_upshot, driven_at, has_candidate, unless_refused, upshot_of}
-use Rattle.bench_history.specs.Cases.{Next, by_act, by_upshot}
-use Rattle.bench_history.specs.Next.{next_of, Allows, IsNext, EachIsNext}
 use Rattle.bench_history.proofs.Called.{acts_are_in_phase}
-use Rattle.bench_history.proofs.Deeds.{deed-next, is-act}
+use Rattle.bench_history.proofs.ActEntries.{is-act}
+use Rattle.bench_history.proofs.Inversion.{comes}
 use Rattle.bench_history.proofs.Ended.{none-after}
 use Rattle.bench_history.proofs.Living.{begin-going, end-going}
-use Rattle.bench_history.proofs.Performed.{acts_go_in_order}
-use Rattle.std.specs.List.{list_any}
-use Rattle.uvm_phase.specs.Phases.{same_phase}
-use Rattle.bench_history.specs.declared.askers.DriverPort.{DriverPort}
 
--- an act that was performed came to its upshot
-pub upshot-next : (script : ScriptValue) (before : List Entry) (performer : Who) (outcome : Outcome) (act : Act) → IsNext script before (Did performer outcome act) → Allows (by_upshot performer act (upshot_of script before performer act)) (Did performer outcome act)
-upshot-next script before performer outcome act next =
-    let deed = deed-next script before performer outcome act (next_of script before) refl next in
-    let first = acts_go_in_order script before (is-act performer outcome act (next_of script before) next) in
-    let lists : act ∷ _ ≡ first.0 ∷ _ = sym deed.left ∙ first.1.left in
-    let same : act ≡ first.0 = cc in
-    let comes : Allows (by_act script before (speaker_of before) first.0) (Did performer outcome act) = subst (λ (n : Next). Allows n (Did performer outcome act)) first.1.next next in
-    let his : Allows (by_act script before (speaker_of before) act) (Did performer outcome act) = subst (λ (one : Act). Allows (by_act script before (speaker_of before) one) (Did performer outcome act)) (sym same) comes in
-    subst (λ (one : Who). Allows (by_act script before one act) (Did performer outcome act)) (sym deed.performer_is) his
+-- an act that was performed came to its effect
+pub effect-next : (script : ScriptValue) (before : List Entry) (performer : Who) (outcome : Outcome) (act : Act) → IsNext script before (Did performer outcome act) → Allows (by_effect performer act (effect_of script before performer act)) (Did performer outcome act)
+effect-next script before performer outcome act next =
+    let act_entry = comes script before (Did performer outcome act) next in
+    subst (λ (one : Who). Allows (by_act script before one act) (Did performer outcome act)) (sym act_entry.performer_is) act_entry.comes
 
 -- and was not refused, if it was accepted
 abbrev pub is_accepted : Outcome → Bool
 is_accepted (Refused fatal) = false
 is_accepted outcome = true
 
-pub not-refused : (performer : Who) (outcome : Outcome) (act : Act) (first second : Option Fatal) (upshot : Upshot) → is_accepted outcome ≡ true → Allows (by_upshot performer act (unless_refused first (unless_refused second upshot))) (Did performer outcome act) → second ≡ None
-not-refused performer outcome act (Some fatal) second upshot accepted allows = let same : outcome ≡ Refused fatal = cc in let none : is_accepted (Refused fatal) ≡ true = ap is_accepted (sym same) ∙ accepted in cc
-not-refused performer outcome act None (Some fatal) upshot accepted allows = let same : outcome ≡ Refused fatal = cc in let none : is_accepted (Refused fatal) ≡ true = ap is_accepted (sym same) ∙ accepted in cc
-not-refused performer outcome act None None upshot accepted allows = refl
+pub not-refused : (performer : Who) (outcome : Outcome) (act : Act) (first second : Option Fatal) (effect : Effect) → is_accepted outcome ≡ true → Allows (by_effect performer act (unless_refused first (unless_refused second effect))) (Did performer outcome act) → second ≡ None
+not-refused performer outcome act (Some fatal) second effect accepted allows = let same : outcome ≡ Refused fatal = cc in let none : is_accepted (Refused fatal) ≡ true = ap is_accepted (sym same) ∙ accepted in cc
+not-refused performer outcome act None (Some fatal) effect accepted allows = let same : outcome ≡ Refused fatal = cc in let none : is_accepted (Refused fatal) ≡ true = ap is_accepted (sym same) ∙ accepted in cc
+not-refused performer outcome act None None effect accepted allows = refl
 
 -- an ask that is accepted is asked in a phase that takes time
 first-none : (first second third : Option Fatal) → first_given (first ∷ second ∷ third ∷ []) ≡ None → first ≡ None
@@ -73,7 +36,7 @@ task-of (Some phase) there refusal e = (phase, refl)
 asks-task : (script : ScriptValue) (before : List Entry) (performer : Who) (outcome : Outcome) (port : List ℕ) (way : How) → IsNext script before (Did performer outcome (Ask port way)) → is_accepted outcome ≡ true → (phase : Phase) × (act_phase before ≡ Some phase)
 asks-task script before performer outcome port way next accepted =
     task-of (act_phase before) (is_some (sequencer_below before performer port)) (option_and_then ask_refusal (driven_at before performer port))
-    (not-refused performer outcome (Ask port way) (fault_if (not (is_open_to (Ask port way) performer)) NotOpen) _ (asked_upshot way (has_candidate (sequences_of before) (driven_at before performer port))) accepted (upshot-next script before performer outcome (Ask port way) next))
+    (not-refused performer outcome (Ask port way) (fault_if (not (is_open_to (Ask port way) performer)) NotOpen) _ (asked_effect way (has_candidate (sequences_of before) (driven_at before performer port))) accepted (effect-next script before performer outcome (Ask port way) next))
 
 -- a driver that is not idle asked in a phase in progress
 abbrev pub IsAsking : List Entry → ℕ → Type 0
@@ -110,18 +73,18 @@ busy-kept live (driver.Granted other way) e = refl
 busy-kept live (driver.InHand other) e = refl
 
 -- what does not end with a phase was asked in another
-asked-apart : (phase : Phase) (asker : Option DriverPort) (asked : Phase) → option_and_then (λ asker. asker.phase) asker ≡ Some asked → ends_ask phase asker ≡ false → same_phase asked phase ≡ false
+asked-apart : (phase : Phase) (requester : Option DriverPort) (asked : Phase) → option_and_then (λ requester. requester.phase) requester ≡ Some asked → ends_ask phase requester ≡ false → same_phase asked phase ≡ false
 asked-apart phase None asked is e = cc
-asked-apart phase (Some asker) asked is e = rw is at e
+asked-apart phase (Some requester) asked is e = rw is at e
 
-module _ (keeps : OrderKeepsAll Owner (Option Call)) (excludes : LockExcludes) where
+module _ (keeps : OrderKeepsAll EventTarget (Option Call)) (excludes : LockExcludes) where
   asking-ask : (script : ScriptValue) (before : List Entry) (node : ℕ) (performer : Who) (outcome : Outcome) (port : List ℕ) (way : How) (leads : Bool) → EachIsNext script before → IsNext script before (Did performer outcome (Ask port way)) → is_accepted outcome ≡ true
       → (is_idle (driver_state before node) ≡ false → IsAsking before node) → is_idle (if leads then driver.Waiting way else driver_state before node) ≡ false
-      → (phase : Phase) × (option_and_then (λ asker. asker.phase) (if leads then Some (record { who = performer; name = port; phase = act_phase before }) else driver_asker before node) ≡ Some phase) × (list_any (same_phase phase) (in_progress (stage_of before)) ≡ true)
+      → (phase : Phase) × (option_and_then (λ requester. requester.phase) (if leads then Some (record { who = performer; name = port; phase = act_phase before }) else driver_requester before node) ≡ Some phase) × (list_any (same_phase phase) (in_progress (stage_of before)) ≡ true)
   asking-ask script before node performer outcome port way true each next accepted was busy =
       let task = asks-task script before performer outcome port way next accepted in
-      let deed = deed-next script before performer outcome (Ask port way) (next_of script before) refl next in
-      let in_phase = acts_are_in_phase keeps excludes script before (Ask port way) each (is-act performer outcome (Ask port way) (next_of script before) next) deed.left in
+      let act_entry = comes script before (Did performer outcome (Ask port way)) next in
+      let in_phase = acts_are_in_phase keeps excludes script before (Ask port way) each (is-act performer outcome (Ask port way) (next_of script before) next) act_entry.left in
       (task.0, task.1, in_phase.going task.0 task.1)
   asking-ask script before node performer outcome port way false each next accepted was busy = was busy
 
@@ -142,12 +105,12 @@ module _ (keeps : OrderKeepsAll Owner (Option Call)) (excludes : LockExcludes) w
   asking-did script before node performer outcome act each next was busy = was busy
 
   -- with the end of a phase it is idle, where it asked in that phase, and else it waits on, or is sent what it was granted
-  asking-end : (script : ScriptValue) (before : List Entry) (phase : Phase) (node : ℕ) → IsNext script before (End phase) → (is_idle (driver_state before node) ≡ false → IsAsking before node) → (ends : Bool) → ends_ask phase (driver_asker before node) ≡ ends
+  asking-end : (script : ScriptValue) (before : List Entry) (phase : Phase) (node : ℕ) → IsNext script before (End phase) → (is_idle (driver_state before node) ≡ false → IsAsking before node) → (ends : Bool) → ends_ask phase (driver_requester before node) ≡ ends
       → is_idle (kept_on ends (is_live (End phase ∷ before)) (driver_state before node)) ≡ false → IsAsking (End phase ∷ before) node
   asking-end script before phase node next was true is busy = cc
   asking-end script before phase node next was false is busy =
       let asks = was (busy-kept (is_live (End phase ∷ before)) (driver_state before node) busy) in
-      (asks.0, asks.1, by asks.0 (end-going script before phase asks.0 next asks.2) (asked-apart phase (driver_asker before node) asks.0 asks.1 is))
+      (asks.0, asks.1, by asks.0 (end-going script before phase asks.0 next asks.2) (asked-apart phase (driver_requester before node) asks.0 asks.1 is))
     where
       by : (asked : Phase) → (list_any (same_phase asked) (in_progress (stage_of (End phase ∷ before))) ≡ true) ⊎ (same_phase asked phase ≡ true) → same_phase asked phase ≡ false → list_any (same_phase asked) (in_progress (stage_of (End phase ∷ before))) ≡ true
       by asked (inl going) apart = going
@@ -157,7 +120,7 @@ module _ (keeps : OrderKeepsAll Owner (Option Call)) (excludes : LockExcludes) w
   asking-more script before (Did performer outcome act) node each next was on busy = asking-did script before node performer outcome act each next was busy
   asking-more script before (Granted other grant) node each next was on busy = was (busy-granted (other == node) grant.id (driver_state before node) busy)
   asking-more script before (Begin phase) node each next was on busy = let asks = was busy in (asks.0, asks.1, begin-going script before phase asks.0 next asks.2)
-  asking-more script before (End phase) node each next was on busy = asking-end script before phase node next was (ends_ask phase (driver_asker before node)) refl busy
+  asking-more script before (End phase) node each next was on busy = asking-end script before phase node next was (ends_ask phase (driver_requester before node)) refl busy
   asking-more script before (Over reason) node each next was on busy = absurd (on refl)
   asking-more script before entry node each next was on busy = was busy
 

@@ -1,35 +1,11 @@
 -- What is due was caused: the entry at the place of its cause causes it.
-use Rattle.std.proofs.Common.{◌≡◌, ℕ, suc, Bool, true, false, not, List, [], ◌∷◌, ◌++◌, length, Option, Some, None, refl, sym, ap, subst, ◌∙◌, arith, length-append, if◌then◌else◌}
-use Rattle.std.specs.List.{All, Contains, flat_map}
-use Rattle.std.proofs.lemmas.List.Elements.{All-nil, All-cons, All-head, All-tail, All-append, All-filter, All-weaker, All-contains, All-contains_itself}
-use Rattle.uvm_phase.specs.declared.phases.Phase.{Phase}
-use Rattle.uvm_phase.specs.declared.agendas.Cause.{Cause}
+use Rattle.bench_history.proofs.Common.{◌≡◌, ℕ, suc, Bool, true, false, not, List, [], ◌∷◌, ◌++◌, length, Option, Some, None, refl, sym, ap, subst, ◌∙◌, arith, if◌then◌else◌, All-nil, All-cons, All-head, All-tail, All-append, All-filter, All-weaker, All-contains, All-contains_itself, Phase, Cause, drains_begun, drains_ended, BegunDrainsAreHeld, PlacesStay, SettledGoByTotals, Who, Call, Act, Origin, Entry, Heard, Did, Locked, Granted, Passed, Drained, End, ScriptValue, DueCall, EventTarget, Object, Drain, Event, is_drain_of, act_phase, now_of, phase_begun, objections_of, calls_from, calls_numbered, calls_caused, caused_at, scheduled_events, drain_from, due_after, due_from, event_in, events_from, moves_drains, call_to_performer, call_of_passage, with_drains_of, with_events_from, lapsed_with, IsLegal, IsAtCause, IsCaused, call_time, length-append, All, Contains, flat_map, NodesGrow}
 use Rattle.uvm_objection.specs.declared.objections.Due as drain
-use Rattle.uvm_objection.specs.Totals.{drains_begun, drains_ended}
-use Rattle.uvm_objection.specs.Laws.{BegunDrainsAreHeld, NodesGrow, PlacesStay, SettledGoByTotals}
-use Rattle.uvm_acts.specs.declared.acts.Who.{Who}
 use Rattle.uvm_acts.specs.declared.acts.Who.TheVariants as who
-use Rattle.uvm_acts.specs.declared.acts.Call.{Call}
 use Rattle.uvm_acts.specs.declared.acts.Call.TheVariants as call
-use Rattle.uvm_acts.specs.declared.acts.Act.{Act}
-use Rattle.uvm_object.specs.declared.entries.Origin.{Origin}
-use Rattle.uvm_object.specs.declared.entries.Entry.{Entry}
-use Rattle.uvm_object.specs.declared.entries.Entry.TheVariants.{Heard, Did, Locked, Granted, Passed, Drained, End}
-use Rattle.bench_script.specs.Scripts.{ScriptValue}
-use Rattle.bench_history.specs.declared.owners.Told.{Told}
-use Rattle.bench_history.specs.declared.owners.Owner.{Owner}
-use Rattle.bench_history.specs.declared.owners.Owner.TheVariants.{Object, Drain}
-use Rattle.bench_history.specs.Owners.{Event, is_drain_of}
-use Rattle.bench_history.specs.History.{act_phase, now_of}
-use Rattle.bench_history.specs.Sequences.{phase_begun}
-use Rattle.bench_history.specs.Objections.{objections_of}
-use Rattle.bench_history.specs.Dues.{calls_from, calls_numbered, calls_told, caused_at, caused_of, drain_from, due_after, due_from, event_in, events_from, moves_drains, told_by, told_of, with_drains_of, with_events_from, lapsed_with}
-use Rattle.bench_history.specs.Next.{next_of, IsLegal}
-use Rattle.bench_history.specs.LegalLogs.{IsAtCause, IsCaused, call_time}
-use Rattle.bench_history.proofs.Grown.{plain-next}
+use Rattle.bench_history.proofs.Inversion.{comes}
 use Rattle.bench_history.proofs.Olders.{older-each}
-use Rattle.bench_history.proofs.Performed.{due_calls_go_in_order}
-use Rattle.bench_history.proofs.Timely.{IsCallTime, call-times, first-caused, heard-alone}
+use Rattle.bench_history.proofs.Timely.{IsCallTime, call-times, first-caused}
 
 -- what an entry adds, and what was there, are all that there is after it
 module _ (P : Event → Type 0) where
@@ -55,12 +31,12 @@ module _ (P : Event → Type 0) where
 
   both-all : (script : ScriptValue) (entry : Entry) (before : List Entry) (caused : List Event) → All P (events_from script entry before) → All P caused → All P (with_events_from script entry before caused)
   both-all script (Did performer outcome act) before caused new old =
-      let told = calls_numbered (now_of before) (length before) 0 (calls_told before performer outcome act) in
+      let told = calls_numbered (now_of before) (length before) 0 (calls_caused before performer outcome act) in
       let from = calls_from outcome act performer (act_phase before) (now_of before) (length before) in
       let rest = all-right told _ new in
       All-append P told _ (all-left told _ new) (All-append P from _ (all-left from _ rest) (both-moved script (moves_drains outcome act) (act_phase before) (Did performer outcome act) before caused (all-right from _ rest) old))
   both-all script (Passed fifo passage) before caused new old =
-      let told = due_from (Some (told_of passage.kind passage)) passage.who (Some passage.phase) (now_of before) (caused_at (length before)) in
+      let told = due_from (Some (call_of_passage passage.kind passage)) passage.who (Some passage.phase) (now_of before) (caused_at (length before)) in
       All-append P told caused (all-left told [] new) old
   both-all script (Locked node id) before caused new old =
       let told = due_from (Some call.Held) (who.Sequence node id) (phase_begun before id) (now_of before) (caused_at (length before)) in
@@ -78,7 +54,7 @@ module _ (P : Event → Type 0) where
 abbrev IsPlaced : ℕ → Event → Type 0
 IsPlaced place event = event.cause.place ≡ place
 
-event-placed : (phase : Option Phase) (time place number : ℕ) (owner : Owner) (notice : Option Call) → All (IsPlaced place) (event_in phase time (record { place = place; number = number }) owner notice)
+event-placed : (phase : Option Phase) (time place number : ℕ) (owner : EventTarget) (notice : Option Call) → All (IsPlaced place) (event_in phase time (record { place = place; number = number }) owner notice)
 event-placed None time place number owner notice = All-nil (IsPlaced place)
 event-placed (Some phase) time place number owner notice = All-cons (IsPlaced place) _ [] refl (All-nil (IsPlaced place))
 
@@ -86,7 +62,7 @@ due-placed : (notice : Option Call) (performer : Who) (phase : Option Phase) (ti
 due-placed None performer phase time place = All-nil (IsPlaced place)
 due-placed (Some call) performer phase time place = event-placed phase time place 0 (Object performer) (Some call)
 
-numbered-placed : (time place number : ℕ) (calls : List Told) → All (IsPlaced place) (calls_numbered time place number calls)
+numbered-placed : (time place number : ℕ) (calls : List DueCall) → All (IsPlaced place) (calls_numbered time place number calls)
 numbered-placed time place number [] = All-nil (IsPlaced place)
 numbered-placed time place number (told ∷ calls) = All-append (IsPlaced place) (calls_numbered time place (suc number) calls) _ (numbered-placed time place (suc number) calls) (event-placed told.phase time place number (Object told.who) (Some told.call))
 
@@ -107,10 +83,10 @@ moved-placed script false phase entry before = All-nil (IsPlaced (length before)
 placed-all : (script : ScriptValue) (entry : Entry) (before : List Entry) → All (IsPlaced (length before)) (events_from script entry before)
 placed-all script (Did performer outcome act) before =
     let P = IsPlaced (length before) in
-    All-append P (calls_numbered (now_of before) (length before) 0 (calls_told before performer outcome act)) _ (numbered-placed (now_of before) (length before) 0 (calls_told before performer outcome act))
-    (All-append P (calls_from outcome act performer (act_phase before) (now_of before) (length before)) _ (due-placed (told_by outcome act) performer (act_phase before) (due_after (now_of before) act) (length before))
+    All-append P (calls_numbered (now_of before) (length before) 0 (calls_caused before performer outcome act)) _ (numbered-placed (now_of before) (length before) 0 (calls_caused before performer outcome act))
+    (All-append P (calls_from outcome act performer (act_phase before) (now_of before) (length before)) _ (due-placed (call_to_performer outcome act) performer (act_phase before) (due_after (now_of before) act) (length before))
     (moved-placed script (moves_drains outcome act) (act_phase before) (Did performer outcome act) before))
-placed-all script (Passed fifo passage) before = All-append (IsPlaced (length before)) (due_from (Some (told_of passage.kind passage)) passage.who (Some passage.phase) (now_of before) (caused_at (length before))) [] (due-placed (Some (told_of passage.kind passage)) passage.who (Some passage.phase) (now_of before) (length before)) (All-nil (IsPlaced (length before)))
+placed-all script (Passed fifo passage) before = All-append (IsPlaced (length before)) (due_from (Some (call_of_passage passage.kind passage)) passage.who (Some passage.phase) (now_of before) (caused_at (length before))) [] (due-placed (Some (call_of_passage passage.kind passage)) passage.who (Some passage.phase) (now_of before) (length before)) (All-nil (IsPlaced (length before)))
 placed-all script (Locked node id) before = All-append (IsPlaced (length before)) _ [] (due-placed (Some call.Held) (who.Sequence node id) (phase_begun before id) (now_of before) (length before)) (All-nil (IsPlaced (length before)))
 placed-all script (Granted node grant) before = All-append (IsPlaced (length before)) _ [] (due-placed (Some call.Grant) (who.Sequence node grant.id) (phase_begun before grant.id) (now_of before) (length before)) (All-nil (IsPlaced (length before)))
 placed-all script (End phase) before = All-append (IsPlaced (length before)) (calls_numbered (now_of before) (length before) 0 (lapsed_with phase before)) [] (numbered-placed (now_of before) (length before) 0 (lapsed_with phase before)) (All-nil (IsPlaced (length before)))
@@ -132,12 +108,12 @@ cause-newest script entry before event among =
     let placed = All-contains (IsPlaced (length before)) (events_from script entry before) event (placed-all script entry before) among in
     record { entry = entry; before = before; at = record { later = []; splits = refl; place = sym placed }; among = among }
 
-causes-of : (script : ScriptValue) (history : List Entry) → All (HasCause script history) (caused_of script history)
+causes-of : (script : ScriptValue) (history : List Entry) → All (HasCause script history) (scheduled_events script history)
 causes-of script [] = All-nil (HasCause script [])
 causes-of script (entry ∷ before) =
-    both-all (HasCause script (entry ∷ before)) script entry before (caused_of script before)
+    both-all (HasCause script (entry ∷ before)) script entry before (scheduled_events script before)
     (All-weaker (Contains (events_from script entry before)) (HasCause script (entry ∷ before)) (cause-newest script entry before) (events_from script entry before) (All-contains_itself (events_from script entry before)))
-    (All-weaker (HasCause script before) (HasCause script (entry ∷ before)) (cause-later script entry before) (caused_of script before) (causes-of script before))
+    (All-weaker (HasCause script before) (HasCause script (entry ∷ before)) (cause-later script entry before) (scheduled_events script before) (causes-of script before))
 
 -- one entry stands at a place
 same-place : (later other : List Entry) (one two : Entry) (before past : List Entry) → later ++ one ∷ before ≡ other ++ two ∷ past → length before ≡ length past → one ∷ before ≡ two ∷ past
@@ -167,7 +143,7 @@ pub calls_on_time :
     → IsCaused script before hearer call origin (now_of before)
 calls_on_time goes held_are stay grow script later before hearer call origin acts legal =
     let each = older-each script later (Heard hearer (Some origin) call acts ∷ before) legal.each in
-    let due = due_calls_go_in_order script before hearer call origin (heard-alone hearer call (Some origin) acts (next_of script before) (plain-next script before) each.0) in
+    let due = comes script before (Heard hearer (Some origin) call acts) each.0 in
     let has = first-caused (HasCause script before) script before due.event (causes-of script before) due.first in
     let cause_is : due.event.cause ≡ origin.cause = ap (λ (one : Origin). one.cause) due.origin_is in
     let at : IsAtCause before origin.cause has.entry has.before = subst (λ (one : Cause). IsAtCause before one has.entry has.before) cause_is has.at in

@@ -1,45 +1,15 @@
 -- The sequencers on which sequences were started, who drives each, and who is granted what there.
-use Rattle.std.proofs.Common.{◌≡◌, ℕ, ◌==◌, suc, zero, Bool, true, false, List, [], ◌∷◌, ◌++◌, length, find, slice_get, Option, Some, None, IsSome, IfSome, option_map, option_and_then, option_to_list, unwrap_or, refl, ap, sym, ◌∙◌, subst, arith, ◌⊎◌, inl, inr, if◌then◌else◌}
-use Rattle.std.specs.Option.{option_map_or}
-use Rattle.std.specs.List.{All}
-use Rattle.std.proofs.lemmas.Bool.Decides.{nat_tests}
-use Rattle.std.proofs.lemmas.List.Elements.{All-nil, All-cons, All-weaker}
-use Rattle.uvm_phase.specs.Laws.{OrderKeepsAll}
-use Rattle.uvm_sequencer.specs.declared.modes.Mode.{Mode}
-use Rattle.uvm_sequencer.specs.Laws.{LockExcludes}
-use Rattle.uvm_sequences.specs.Sequences.{numbered}
+use Rattle.bench_history.proofs.Common.{◌≡◌, ℕ, ◌==◌, suc, zero, Bool, true, false, List, [], ◌∷◌, ◌++◌, length, find, Option, Some, None, IsSome, IfSome, option_map, option_and_then, option_to_list, unwrap_or, refl, ap, sym, ◌∙◌, subst, arith, ◌⊎◌, inl, inr, if◌then◌else◌, option_map_or, nat_tests, All-nil, All-cons, All-weaker, OrderKeepsAll, Mode, numbered, child, node_at, node_of, Who, What, Call, Act, Add, Outcome, Done, Made, Started, Entry, Did, Locked, ScriptValue, EventTarget, Ended, created_name, ended_of, kind_of, nodes_of, test_creation, performer_of, stage_of, in_progress, node_below, asked_in, mode_at, mode_in, modes_of, StartRecord, starts_of, home_asked, if_sequencer, is_sequencer, sequences_of, start_by, Next, Exactly, Grant, Nothing, next_of, EachIsNext, IsAct, IsNext, ChosenAreThere, DriversAreThere, HasNotEnded, IsLiving, IsThere, LockersAreThere, AsksAreInPhase, is_going, Phase, slice_get, All, LockExcludes, Node, Start}
 use Rattle.uvm_tree.specs.declared.nodes.NodeKind.TheVariants as kind
-use Rattle.uvm_tree.specs.Nodes.{Node, child, node_at}
-use Rattle.uvm_acts.specs.Acts.{node_of}
-use Rattle.uvm_acts.specs.declared.acts.Who.{Who}
 use Rattle.uvm_acts.specs.declared.acts.Who.TheVariants as who
-use Rattle.uvm_acts.specs.declared.acts.What.{What}
 use Rattle.uvm_acts.specs.declared.acts.What.TheVariants as what
-use Rattle.uvm_acts.specs.declared.acts.Call.{Call}
-use Rattle.uvm_acts.specs.declared.acts.Act.{Act}
-use Rattle.uvm_acts.specs.declared.acts.Act.TheVariants.{Add, Start}
-use Rattle.uvm_object.specs.declared.entries.Outcome.{Outcome}
-use Rattle.uvm_object.specs.declared.entries.Outcome.TheVariants.{Done, Made, Started}
-use Rattle.uvm_object.specs.declared.entries.Entry.{Entry}
-use Rattle.uvm_object.specs.declared.entries.Entry.TheVariants.{Did, Locked}
-use Rattle.bench_script.specs.Scripts.{ScriptValue}
-use Rattle.bench_history.specs.declared.owners.Owner.{Owner}
-use Rattle.bench_history.specs.declared.stages.Stage.TheVariants.{Ended}
-use Rattle.bench_history.specs.History.{created_name, ended_of, kind_of, nodes_of, opening, speaker_of, stage_of, in_progress}
-use Rattle.bench_history.specs.Wires.{node_below}
-use Rattle.bench_history.specs.Arbitration.{asked_in, mode_at, mode_in, modes_of}
-use Rattle.bench_history.specs.Sequences.{Beginning, begun_of, home_asked, if_sequencer, is_sequencer, sequences_of, start_by}
-use Rattle.bench_history.specs.Cases.{Next, Exactly, Grant, Nothing}
-use Rattle.bench_history.specs.Next.{next_of, EachIsNext, IsAct, IsNext}
-use Rattle.bench_history.specs.Laws.{ChosenAreThere, DriversAreThere, HasNotEnded, IsLiving, IsThere, LockersAreThere, AsksAreInPhase, is_going}
 use Rattle.bench_history.proofs.Awaiting.{IsAsking, asking-of}
 use Rattle.bench_history.proofs.Phased.{phases_in_progress_are_open}
 use Rattle.bench_history.proofs.Ended.{nothing-comes}
 use Rattle.bench_history.proofs.Homes.{IsStarting, home-of, starting-next}
 use Rattle.bench_history.proofs.Living.{numbered-holds}
 use Rattle.bench_history.proofs.Performed.{grants_go_in_order, locks_go_in_order}
-use Rattle.bench_history.proofs.Called.{chosen-holds, drivers-known, hands-known, locking-holds, performers_are_there, queue-living, askers-known}
-use Rattle.uvm_phase.specs.declared.phases.Phase.{Phase}
+use Rattle.bench_history.proofs.Called.{chosen-holds, drivers-known, hands-known, locking-holds, performers_are_there, queue-living, requesters-known}
 
 -- the mode of the sequencer at a node
 abbrev found_in : List (ℕ × Mode) → ℕ → Option Mode
@@ -123,52 +93,52 @@ found-mode history None home e = cc
 found-mode history (Some at) home e = sequencer-mode history at home (node_at (nodes_of history) at) refl e
 
 -- each sequence was started on one
-abbrev pub HasHome : List Entry → Beginning → Type 0
-HasHome history beginning = IsSome (mode_at history beginning.start.home)
+abbrev pub HasHome : List Entry → StartRecord → Type 0
+HasHome history start_record = IsSome (mode_at history start_record.start.home)
 
-pub begun-mode : (history : List Entry) (home : ℕ) (found : Option Beginning) (id : ℕ) → numbered (begun_of history) id ≡ found → All (HasHome history) (begun_of history) → option_map (λ beginning. beginning.start.home) found ≡ Some home → IsSome (mode_at history home)
+pub begun-mode : (history : List Entry) (home : ℕ) (found : Option StartRecord) (id : ℕ) → numbered (starts_of history) id ≡ found → All (HasHome history) (starts_of history) → option_map (λ start_record. start_record.start.home) found ≡ Some home → IsSome (mode_at history home)
 begun-mode history home None id is all e = cc
-begun-mode history home (Some beginning) id is all e =
-    let same : beginning.start.home ≡ home = cc in
-    subst (λ (h : ℕ). IsSome (mode_at history h)) same (numbered-holds (HasHome history) (begun_of history) id beginning all is)
+begun-mode history home (Some start_record) id is all e =
+    let same : start_record.start.home ≡ home = cc in
+    subst (λ (h : ℕ). IsSome (mode_at history h)) same (numbered-holds (HasHome history) (starts_of history) id start_record all is)
 
-asked-mode : (history : List Entry) (performer : Who) (on : List (List ℕ)) (home : ℕ) → All (HasHome history) (begun_of history) → IsThere history performer → home_asked (nodes_of history) performer on ≡ Some home → IsSome (mode_at history home)
+asked-mode : (history : List Entry) (performer : Who) (on : List (List ℕ)) (home : ℕ) → All (HasHome history) (starts_of history) → IsThere history performer → home_asked (nodes_of history) performer on ≡ Some home → IsSome (mode_at history home)
 asked-mode history (who.Node node) on home homes there e = found-mode history (node_below (nodes_of history) (who.Node node) on) home e
 asked-mode history (who.Sequence at id) [] home homes there e =
     let same : at ≡ home = cc in
-    subst (λ (h : ℕ). IsSome (mode_at history h)) same (begun-mode history at (numbered (begun_of history) id) id refl homes there.home_is)
+    subst (λ (h : ℕ). IsSome (mode_at history h)) same (begun-mode history at (numbered (starts_of history) id) id refl homes there.home_is)
 asked-mode history (who.Sequence at id) (name ∷ on) home homes there e = cc
 
 started-mode :
-    (script : ScriptValue) (before : List Entry) (performer : Who) (id : ℕ) (act : Act) → IsStarting script before performer id act → All (HasHome before) (begun_of before)
-    → (act ≡ opening script) ⊎ IsThere before (speaker_of before) → IsSome (mode_at before (start_by (nodes_of before) (sequences_of before) performer act).home)
-started-mode script before performer id act s homes (inl opens) = let e : opening script ≡ Start s.begun.asked s.begun.name s.begun.on s.begun.priority = sym opens ∙ s.begun.starts in cc
+    (script : ScriptValue) (before : List Entry) (performer : Who) (id : ℕ) (act : Act) → IsStarting script before performer id act → All (HasHome before) (starts_of before)
+    → (act ≡ test_creation script) ⊎ IsThere before (performer_of before) → IsSome (mode_at before (start_by (nodes_of before) (sequences_of before) performer act).home)
+started-mode script before performer id act s homes (inl opens) = let e : test_creation script ≡ Start s.begun.asked s.begun.name s.begun.on s.begun.priority = sym opens ∙ s.begun.starts in cc
 started-mode script before performer id act s homes (inr there) =
     let b = s.begun in
-    let h = home-of script before (speaker_of before) b.asked b.name b.on b.priority b.may in
+    let h = home-of script before (performer_of before) b.asked b.name b.on b.priority b.may in
     let At : Who → Act → Type 0 = λ who act. IsSome (mode_at before (start_by (nodes_of before) (sequences_of before) who act).home) in
-    let asked : IsSome (mode_at before (unwrap_or (home_asked (nodes_of before) (speaker_of before) b.on) 0)) = rw h.1 (asked-mode before (speaker_of before) b.on h.0 homes there h.1) in
-    let by : At (speaker_of before) (Start b.asked b.name b.on b.priority) = asked in
-    subst (λ (who : Who). At who act) (sym s.performer_is) (subst (At (speaker_of before)) (sym b.starts) by)
+    let asked : IsSome (mode_at before (unwrap_or (home_asked (nodes_of before) (performer_of before) b.on) 0)) = rw h.1 (asked-mode before (performer_of before) b.on h.0 homes there h.1) in
+    let by : At (performer_of before) (Start b.asked b.name b.on b.priority) = asked in
+    subst (λ (who : Who). At who act) (sym s.performer_is) (subst (At (performer_of before)) (sym b.starts) by)
 
-homes-weaker : (entry : Entry) (before : List Entry) → All (HasHome before) (begun_of before) → All (HasHome (entry ∷ before)) (begun_of before)
-homes-weaker entry before homes = All-weaker (HasHome before) (HasHome (entry ∷ before)) (λ beginning. mode-more entry before beginning.start.home) (begun_of before) homes
+homes-weaker : (entry : Entry) (before : List Entry) → All (HasHome before) (starts_of before) → All (HasHome (entry ∷ before)) (starts_of before)
+homes-weaker entry before homes = All-weaker (HasHome before) (HasHome (entry ∷ before)) (λ start_record. mode-more entry before start_record.start.home) (starts_of before) homes
 
-module _ (keeps : OrderKeepsAll Owner (Option Call)) (excludes : LockExcludes) where
-  homes-did : (script : ScriptValue) (before : List Entry) (performer : Who) (outcome : Outcome) (act : Act) → EachIsNext script before → IsNext script before (Did performer outcome act) → All (HasHome before) (begun_of before)
-      → All (HasHome (Did performer outcome act ∷ before)) (begun_of (Did performer outcome act ∷ before))
+module _ (keeps : OrderKeepsAll EventTarget (Option Call)) (excludes : LockExcludes) where
+  homes-did : (script : ScriptValue) (before : List Entry) (performer : Who) (outcome : Outcome) (act : Act) → EachIsNext script before → IsNext script before (Did performer outcome act) → All (HasHome before) (starts_of before)
+      → All (HasHome (Did performer outcome act ∷ before)) (starts_of (Did performer outcome act ∷ before))
   homes-did script before performer (Started id) act each next homes =
-      let s = starting-next script before performer id act (next_of script before) refl next in
-      All-cons (HasHome (Did performer (Started id) act ∷ before)) _ (begun_of before)
+      let s = starting-next script before performer id act next in
+      All-cons (HasHome (Did performer (Started id) act ∷ before)) _ (starts_of before)
       (mode-more (Did performer (Started id) act) before _ (started-mode script before performer id act s homes (performers_are_there keeps excludes script before act each s.is s.left)))
       (homes-weaker (Did performer (Started id) act) before homes)
   homes-did script before performer outcome act each next homes = homes-weaker (Did performer outcome act) before homes
 
-  homes-more : (script : ScriptValue) (before : List Entry) (entry : Entry) → EachIsNext script before → IsNext script before entry → All (HasHome before) (begun_of before) → All (HasHome (entry ∷ before)) (begun_of (entry ∷ before))
+  homes-more : (script : ScriptValue) (before : List Entry) (entry : Entry) → EachIsNext script before → IsNext script before entry → All (HasHome before) (starts_of before) → All (HasHome (entry ∷ before)) (starts_of (entry ∷ before))
   homes-more script before (Did performer outcome act) each next homes = homes-did script before performer outcome act each next homes
   homes-more script before entry each next homes = homes-weaker entry before homes
 
-  homes-are : (script : ScriptValue) (history : List Entry) → EachIsNext script history → All (HasHome history) (begun_of history)
+  homes-are : (script : ScriptValue) (history : List Entry) → EachIsNext script history → All (HasHome history) (starts_of history)
   homes-are script [] each = All-nil _
   homes-are script (entry ∷ before) each = homes-more script before entry each.1 each.0 (homes-are script before each.1)
 
@@ -193,7 +163,7 @@ module _ (keeps : OrderKeepsAll Owner (Option Call)) (excludes : LockExcludes) w
 
   pub asks_are_in_phase : AsksAreInPhase
   asks_are_in_phase script history each on = record {
-    drivers = askers-known keeps excludes script history each on;
+    drivers = requesters-known keeps excludes script history each on;
     going = λ node busy. going-on history node (asking-of keeps excludes script history node each on busy);
   }
 

@@ -1,18 +1,6 @@
 -- The end of a run.
-use Rattle.std.proofs.Common.{◌≡◌, true, List, ◌∷◌, [], refl, ap, sym, subst}
-use Rattle.uvm_object.specs.declared.entries.Entry.{Entry}
-use Rattle.uvm_object.specs.declared.entries.Entry.TheVariants.{Begin, End, Over}
-use Rattle.bench_script.specs.Scripts.{ScriptValue}
-use Rattle.bench_history.specs.declared.stages.Stage.TheVariants.{Ended}
-use Rattle.bench_history.specs.History.{stage_of, running, left_of, is_over, in_progress}
-use Rattle.bench_history.specs.Reports.{reason_of}
-use Rattle.bench_history.specs.Dues.{due_now}
-use Rattle.bench_history.specs.Passing.{next_passed}
-use Rattle.bench_history.specs.Arbitration.{next_locked, next_served}
-use Rattle.bench_history.specs.Cases.{Next, Nothing, end_reached, giving_up, locking, serving, passing, long_answer, first_act, event_due, phase_call, port_check, phase_end, phase_begin, phase_to_begin, finish}
-use Rattle.bench_history.specs.Next.{first_next, next_of, Allows, IsNext, EachIsNext}
-use Rattle.bench_history.specs.Laws.{IsSomething, NothingAfterOver, SomethingBeforeOver}
-use Rattle.bench_history.proofs.Inversion.{Case, AtEnd, ByOwn, ByNeed, ByDeed, ByDue, ByTurn, ByEnd, ByBegin, ByGrant, case-of}
+use Rattle.bench_history.proofs.Common.{◌≡◌, true, List, ◌∷◌, [], refl, ap, subst, Entry, Begin, End, Over, ScriptValue, Ended, stage_of, running, remaining_acts, is_over, in_progress, reason_of, due_now, next_passed, next_locked, next_served, Next, Nothing, end_reached, giving_up, locking, serving, passing, long_answer, first_act, event_due, phase_call, port_check, phase_end, phase_begin, phase_to_begin, finish, first_next, next_of, Allows, IsNext, EachIsNext, IsSomething, NothingAfterOver, SomethingBeforeOver, IsNow}
+use Rattle.bench_history.proofs.Inversion.{now-at}
 
 -- after the end nothing comes
 pub nothing-comes : (script : ScriptValue) (history : List Entry) → stage_of history ≡ Ended → next_of script history ≡ Nothing
@@ -24,8 +12,8 @@ nothing-comes script history e =
     ∷ locking (next_locked history)
     ∷ serving history (next_served history)
     ∷ passing (next_passed history)
-    ∷ long_answer history (left_of script history)
-    ∷ first_act script history (left_of script history)
+    ∷ long_answer history (remaining_acts script history)
+    ∷ first_act script history (remaining_acts script history)
     ∷ event_due (due_now script history)
     ∷ phase_begin (phase_to_begin script.runtime (stage_of history))
     ∷ phase_call history (in_progress (stage_of history))
@@ -34,16 +22,9 @@ nothing-comes script history e =
     ∷ finish
     ∷ [])) e
 
-some-case : (script : ScriptValue) (history : List Entry) (next : Next) → (stage_of history ≡ Ended → ⊥) → Case script history next → IsSomething next
-some-case script history next on (AtEnd ended e) = absurd (on ended)
-some-case script history next on (ByOwn entry own e) = subst IsSomething (sym e) tt
-some-case script history next on (ByNeed act need made left upshot e) = subst IsSomething (sym e) tt
-some-case script history next on (ByDeed act outcome left plain comes e) = subst IsSomething (sym e) tt
-some-case script history next on (ByDue event call now is_call e) = subst IsSomething (sym e) tt
-some-case script history next on (ByTurn phase node during turn e) = subst IsSomething (sym e) tt
-some-case script history next on (ByEnd phase runs e) = subst IsSomething (sym e) tt
-some-case script history next on (ByBegin phase may e) = subst IsSomething (sym e) tt
-some-case script history next on (ByGrant sequencer drawn served e) = subst IsSomething (sym e) tt
+something : (script : ScriptValue) (history : List Entry) (next : Next) → (stage_of history ≡ Ended → ⊥) → IsNow script history next → IsSomething next
+something script history Nothing on now = absurd (on now)
+something script history next on now = tt
 
 pub none-after : (script : ScriptValue) (before : List Entry) (entry : Entry) → IsNext script before entry → stage_of before ≡ Ended → ⊥
 none-after script before entry next ended = subst (λ (comes : Next). Allows comes entry) (nothing-comes script before ended) next
@@ -70,4 +51,4 @@ pub nothing_after_over : NothingAfterOver
 nothing_after_over script history over = nothing-comes script history (over-is-ended history over)
 
 pub something_before_over : SomethingBeforeOver
-something_before_over script history each on = some-case script history _ (λ ended. let over = ended-is-over script history each ended in cc) (case-of script history)
+something_before_over script history each on = something script history (next_of script history) (λ ended. let over = ended-is-over script history each ended in cc) (now-at script history (next_of script history) refl)

@@ -1,30 +1,10 @@
--- What one more entry adds to a log: nodes, components, and what somebody was asked.
-use Rattle.std.proofs.Common.{◌≡◌, ℕ, suc, ◌≤◌, List, [], ◌∷◌, ◌++◌, length, slice_get, Option, Some, refl, ap, ◌∙◌, sym, subst, arith}
-use Rattle.std.specs.Option.{option_map_or}
-use Rattle.std.proofs.lemmas.List.{append-nil, length-append, length-map}
-use Rattle.uvm_tree.specs.declared.nodes.NodeKind.TheVariants.{Component}
-use Rattle.uvm_tree.specs.Nodes.{Node, child}
-use Rattle.uvm_acts.specs.Acts.{node_of}
-use Rattle.uvm_object.specs.Objects.{exchanged_in}
-use Rattle.uvm_acts.specs.declared.acts.Who.{Who}
-use Rattle.uvm_acts.specs.declared.acts.Act.{Act}
-use Rattle.uvm_acts.specs.declared.acts.Act.TheVariants.{Add}
-use Rattle.uvm_object.specs.declared.entries.Outcome.{Outcome}
-use Rattle.uvm_object.specs.declared.entries.Outcome.TheVariants.{Done, Made, Started}
-use Rattle.uvm_object.specs.declared.entries.Entry.{Entry}
-use Rattle.uvm_object.specs.declared.entries.Entry.TheVariants.{Heard, Did}
-use Rattle.bench_script.specs.Scripts.{ScriptValue}
+-- What one more entry adds to a log: nodes, components, and what a component or sequence was asked.
+use Rattle.bench_history.proofs.Common.{◌≡◌, ℕ, suc, ◌≤◌, List, [], ◌∷◌, ◌++◌, length, Option, Some, refl, ap, ◌∙◌, sym, subst, arith, option_map_or, append-nil, length-map, Component, child, node_of, exchanged_in, Who, Act, Add, Outcome, Done, Made, Started, Entry, Heard, Did, ScriptValue, Phase, created_name, nodes_of, nodes_after, components_of, components_after, performer_of, act_phase, StartRecord, starts_in, begun_after, starts_of, Next, Exactly, next_of, IsMadeBy, HasMade, MachineEntriesAreSilent, NodesStay, MadeObjectsAreNew, IsNow, NotMade, slice_get, length-append, Node}
 use Rattle.bench_history.specs.declared.needs.Need as declared
-use Rattle.uvm_phase.specs.declared.phases.Phase.{Phase}
-use Rattle.bench_history.specs.History.{created_name, nodes_of, nodes_after, components_of, components_after, speaker_of, act_phase}
-use Rattle.bench_history.specs.Sequences.{Beginning, starts_in, begun_after, begun_of}
-use Rattle.bench_history.specs.Cases.{Next, Exactly}
-use Rattle.bench_history.specs.Next.{next_of}
-use Rattle.bench_history.specs.Laws.{IsMadeBy, HasMade, MachineEntriesAreSilent, NodesStay, MadeObjectsAreNew}
-use Rattle.bench_history.proofs.Inversion.{IsOwn, NotMade, Case, AtEnd, ByOwn, ByNeed, ByDeed, ByDue, ByTurn, ByEnd, ByBegin, ByGrant, case-of}
+use Rattle.bench_history.proofs.Inversion.{now-at}
 use Rattle.bench_history.proofs.Needed.{needed}
 
--- nobody answered, and no object was made
+-- no component or sequence answered, and no object was made
 abbrev pub IsPlain : Entry → Type 0
 IsPlain (Heard performer cause call acts) = ⊥
 IsPlain (Did performer outcome act) = NotMade outcome
@@ -35,27 +15,14 @@ abbrev pub IsPlainNext : Next → Type 0
 IsPlainNext (Exactly entry) = IsPlain entry
 IsPlainNext next = Unit {0}
 
--- what the machine writes by itself is plain
-plain-own : (script : ScriptValue) (history : List Entry) (entry : Entry) → IsOwn script history entry → IsPlain entry
-plain-own script history (Heard performer cause call acts) own = own
-plain-own script history (Did performer outcome act) own = absurd own
-plain-own script history entry own = tt
-
--- in each case of the machine
-plain-case : (script : ScriptValue) (history : List Entry) (next : Next) → Case script history next → IsPlainNext next
-plain-case script history next (AtEnd ended e) = subst IsPlainNext (sym e) tt
-plain-case script history next (ByOwn entry own e) = subst IsPlainNext (sym e) (plain-own script history entry own)
-plain-case script history next (ByNeed act need made left upshot e) = subst IsPlainNext (sym e) tt
-plain-case script history next (ByDeed act outcome left plain comes e) = subst IsPlainNext (sym e) plain
-plain-case script history next (ByDue event call now is_call e) = subst IsPlainNext (sym e) tt
-plain-case script history next (ByTurn phase node during turn e) = subst IsPlainNext (sym e) tt
-plain-case script history next (ByEnd phase runs e) = subst IsPlainNext (sym e) tt
-plain-case script history next (ByBegin phase may e) = subst IsPlainNext (sym e) tt
-plain-case script history next (ByGrant sequencer drawn served e) = subst IsPlainNext (sym e) tt
+plain-now : (script : ScriptValue) (history : List Entry) (next : Next) → IsNow script history next → IsPlainNext next
+plain-now script history (Exactly (Heard performer cause call acts)) now = now
+plain-now script history (Exactly (Did performer outcome act)) now = now.plain
+plain-now script history next now = tt
 
 -- so that what alone is next is plain
 pub plain-next : (script : ScriptValue) (history : List Entry) → IsPlainNext (next_of script history)
-plain-next script history = plain-case script history _ (case-of script history)
+plain-next script history = plain-now script history (next_of script history) (now-at script history (next_of script history) refl)
 
 -- and an entry that alone is next is
 pub exact-plain : (script : ScriptValue) (history : List Entry) (entry : Entry) → next_of script history ≡ Exactly entry → IsPlain entry
@@ -66,7 +33,7 @@ silent : (hearer : Who) (entry : Entry) → IsPlain entry → exchanged_in heare
 silent hearer (Heard performer cause call acts) plain = absurd plain
 silent hearer entry plain = refl
 
--- an entry that alone is next is nobody's answer
+-- an entry that alone is next is not an answer
 exact-is-silent : (script : ScriptValue) (history : List Entry) (entry : Entry) (hearer : Who) → next_of script history ≡ Exactly entry → exchanged_in hearer entry ≡ []
 exact-is-silent script history entry hearer e = silent hearer entry (exact-plain script history entry e)
 
@@ -75,7 +42,7 @@ keeps-outcome : (node : ℕ) (components : List ℕ) (outcome : Outcome) → Not
 keeps-outcome node components (Made type_name) plain = absurd plain
 keeps-outcome node components outcome plain = refl
 
-keeps-begun : (nodes : List Node) (phase : Option Phase) (begun : List Beginning) (performer : Who) (outcome : Outcome) (act : Act) → NotMade outcome → begun_after nodes phase begun performer outcome act ≡ begun
+keeps-begun : (nodes : List Node) (phase : Option Phase) (begun : List StartRecord) (performer : Who) (outcome : Outcome) (act : Act) → NotMade outcome → begun_after nodes phase begun performer outcome act ≡ begun
 keeps-begun nodes phase begun performer (Started id) act plain = absurd plain
 keeps-begun nodes phase begun performer outcome act plain = refl
 
@@ -84,8 +51,8 @@ keeps-components : (history : List Entry) (entry : Entry) → IsPlain entry → 
 keeps-components history (Did performer outcome act) plain = keeps-outcome (length (nodes_of history)) (components_of history) outcome plain
 keeps-components history entry plain = refl
 
-pub keeps-sequences : (history : List Entry) (entry : Entry) → IsPlain entry → begun_of (entry ∷ history) ≡ begun_of history
-keeps-sequences history (Did performer outcome act) plain = keeps-begun (nodes_of history) (act_phase history) (begun_of history) performer outcome act plain
+pub keeps-sequences : (history : List Entry) (entry : Entry) → IsPlain entry → starts_of (entry ∷ history) ≡ starts_of history
+keeps-sequences history (Did performer outcome act) plain = keeps-begun (nodes_of history) (act_phase history) (starts_of history) performer outcome act plain
 keeps-sequences history entry plain = refl
 
 -- and makes no component
@@ -147,11 +114,11 @@ get-behind [] x = refl
 get-behind (y ∷ ys) x = get-behind ys x
 
 -- there are as many starts as sequences
-starts-count : (begun : List Beginning) → length (starts_in begun) ≡ length begun
-starts-count begun = length-map begun (λ (beginning : Beginning). beginning.start)
+pub starts-count : (begun : List StartRecord) → length (starts_in begun) ≡ length begun
+starts-count begun = length-map begun (λ (start_record : StartRecord). start_record.start)
 
 -- an object is made, or a sequence started
-made-by : (script : ScriptValue) (history : List Entry) (need : declared.Need) (made : Outcome) (performer : Who) (act : Act) → performer ≡ speaker_of history → IsMadeBy script history need made act → HasMade history need made performer act
+made-by : (script : ScriptValue) (history : List Entry) (need : declared.Need) (made : Outcome) (performer : Who) (act : Act) → performer ≡ performer_of history → IsMadeBy script history need made act → HasMade history need made performer act
 made-by script history need (Made type_name) performer act speaks makes =
     let new = child (nodes_of history) (node_of performer) (created_name act) Component in
     record {
@@ -161,8 +128,8 @@ made-by script history need (Made type_name) performer act speaks makes =
       starts_none = refl;
     }
 made-by script history need (Started id) performer act speaks makes =
-    let count = starts-count (begun_of history) in
-    let number : id ≡ suc (length (begun_of history)) = makes.number ∙ ap suc count in
+    let count = starts-count (starts_of history) in
+    let number : id ≡ suc (length (starts_of history)) = makes.number ∙ ap suc count in
     record { components = refl; all = rw number refl; number = number }
 made-by script history need other performer act speaks makes = absurd makes
 

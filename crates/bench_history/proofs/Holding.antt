@@ -1,39 +1,12 @@
 -- Who holds a sequencer, and to whom its grants go.
-use Rattle.std.proofs.Common.{◌≡◌, ◌≤◌, ◌<◌, ◌+◌, ℕ, zero, suc, Bool, true, false, not, ◌&&◌, ◌==◌, ◌⊎◌, inl, inr, List, [], ◌∷◌, ◌++◌, length, filter, Option, Some, None, IfSome, option_map, option_and_then, refl, sym, ap, subst, ◌∙◌, arith, length-append, if◌then◌else◌}
-use Rattle.std.specs.List.{All, Contains, list_all}
-use Rattle.std.specs.Option.{option_map_or}
-use Rattle.std.proofs.lemmas.Bool.Decides.{nat_tests}
-use Rattle.std.proofs.lemmas.List.Elements.{All-nil, All-cons, All-head, All-tail, All-push, All-weaker, All-contains, filter-append}
-use Rattle.uvm_phase.specs.Laws.{OrderKeepsAll}
-use Rattle.uvm_tree.specs.Sorted.{path_order}
-use Rattle.uvm_sequencer.specs.declared.modes.Mode.{Mode}
-use Rattle.uvm_sequencer.specs.declared.requests.Request.{Request}
-use Rattle.uvm_sequencer.specs.Choices.{choice}
+use Rattle.bench_history.proofs.Common.{◌≡◌, ◌≤◌, ◌<◌, ◌+◌, ℕ, zero, suc, Bool, true, false, not, ◌&&◌, ◌==◌, ◌⊎◌, inl, inr, List, [], ◌∷◌, ◌++◌, length, filter, Option, Some, None, IfSome, option_map, option_and_then, refl, sym, ap, subst, ◌∙◌, arith, if◌then◌else◌, and_from, and_parts, list_all, option_map_or, nat_tests, All-nil, All-cons, All-head, All-tail, All-push, All-weaker, All-contains, filter-append, OrderKeepsAll, path_order, Mode, choice, are_nested, is_held, is_under, numbered, candidates_at, choice_at, lock_at, Who, Call, Act, Unlock, Outcome, Done, Started, Entry, Did, Locked, Granted, ScriptValue, EventTarget, nodes_of, StartRecord, starts_of, is_live, lives, sequences_of, start_by, given_back, holders, locking_at, locks_held, mode_at, next_locked, sequence_on, sequencer_with, unlocks, chosen_at, next_of, IsNext, EachIsNext, IsLiving, Grants, HasKept, gets_lock, gives_back, is_one_of, length-append, All, Contains, Request}
 use Rattle.uvm_sequencer.specs.Laws as sequencer
-use Rattle.uvm_sequencer.specs.Laws.{are_nested}
-use Rattle.uvm_sequencer.specs.Queues.{is_held, released}
-use Rattle.uvm_sequences.specs.Sequences.{Start, is_under, numbered}
-use Rattle.uvm_sequencer.specs.Sequencers.{candidates_at, choice_at, lock_at}
-use Rattle.uvm_acts.specs.declared.acts.Who.{Who}
-use Rattle.uvm_acts.specs.declared.acts.Call.{Call}
-use Rattle.uvm_acts.specs.declared.acts.Act.{Act}
-use Rattle.uvm_acts.specs.declared.acts.Act.TheVariants.{Unlock}
-use Rattle.uvm_object.specs.declared.entries.Outcome.{Outcome}
-use Rattle.uvm_object.specs.declared.entries.Outcome.TheVariants.{Done, Started}
-use Rattle.uvm_object.specs.declared.entries.Entry.{Entry}
-use Rattle.uvm_object.specs.declared.entries.Entry.TheVariants.{Did, Locked, Granted}
-use Rattle.bench_script.specs.Scripts.{ScriptValue}
-use Rattle.bench_history.specs.declared.owners.Owner.{Owner}
-use Rattle.bench_history.specs.History.{nodes_of}
-use Rattle.bench_history.specs.Sequences.{Beginning, begun_of, is_live, lives, sequences_of, start_by}
-use Rattle.bench_history.specs.Arbitration.{given_back, holders, locking_at, locks_held, mode_at, next_locked, sequence_on, sequencer_with, unlocks}
-use Rattle.bench_history.specs.Cases.{chosen_at}
-use Rattle.bench_history.specs.Next.{next_of, IsNext, EachIsNext}
-use Rattle.bench_history.specs.Laws.{IsLiving}
-use Rattle.bench_history.specs.LegalLogs.{Grants, HasKept, LockExcludes, gets_lock, gives_back, is_one_of}
+use Rattle.uvm_sequencer.specs.Queues.{released}
+use Rattle.uvm_sequences.specs.Sequences.{Start}
+use Rattle.bench_history.specs.LegalLogs.{LockExcludes}
 use Rattle.bench_history.proofs.Asking.{given-holds}
 use Rattle.bench_history.proofs.Driving.{lockers_are_there}
-use Rattle.bench_history.proofs.Expected.{grant-next, lock-alone, lock-next}
+use Rattle.bench_history.proofs.Inversion.{comes, exactly}
 use Rattle.bench_history.proofs.Leaving.{filter-has, living_lived}
 use Rattle.bench_history.proofs.Living.{begun-count, numbered-within}
 use Rattle.bench_history.proofs.Olders.{older-each}
@@ -41,20 +14,9 @@ use Rattle.bench_history.proofs.Olders.{older-each}
 itself : (n : ℕ) → (n == n) ≡ true
 itself n = grind (arith, nat_tests)
 
-both : (a b : Bool) → a ≡ true → b ≡ true → (a && b) ≡ true
-both a b e f = ap (λ x. x && b) e ∙ f
-
-first-of : (a b : Bool) → (a && b) ≡ true → a ≡ true
-first-of true b e = refl
-first-of false b e = e
-
-second-of : (a b : Bool) → (a && b) ≡ true → b ≡ true
-second-of true b e = e
-second-of false b e = cc
-
 all-from : {X : Type 0} (p : X → Bool) (xs : List X) → list_all p xs ≡ true → All (λ x. p x ≡ true) xs
 all-from p [] e = All-nil (λ x. p x ≡ true)
-all-from p (x ∷ xs) e = All-cons (λ x. p x ≡ true) x xs (first-of (p x) (list_all p xs) e) (all-from p xs (second-of (p x) (list_all p xs) e))
+all-from p (x ∷ xs) e = All-cons (λ x. p x ≡ true) x xs (and_parts (p x) (list_all p xs) e).0 (all-from p xs (and_parts (p x) (list_all p xs) e).1)
 
 -- whatever is granted goes to a sequence that is each holder or descends from it
 abbrev AreOver : List Entry → ℕ → ℕ → Type 0
@@ -101,8 +63,8 @@ all-narrow r p q (x ∷ xs) within all = tested (p x) (q x) refl refl (All-head 
     tested :
         (a b : Bool) → p x ≡ a → q x ≡ b → IsWithin p q x → list_all r (if a then x ∷ filter p xs else filter p xs) ≡ true → (list_all r (filter p xs) ≡ true → list_all r (filter q xs) ≡ true)
         → list_all r (if b then x ∷ filter q xs else filter q xs) ≡ true
-    tested true true is at in_it all more = both (r x) (list_all r (filter q xs)) (first-of (r x) (list_all r (filter p xs)) all) (more (second-of (r x) (list_all r (filter p xs)) all))
-    tested true false is at in_it all more = more (second-of (r x) (list_all r (filter p xs)) all)
+    tested true true is at in_it all more = and_from (r x) (list_all r (filter q xs)) (and_parts (r x) (list_all r (filter p xs)) all).0 (more (and_parts (r x) (list_all r (filter p xs)) all).1)
+    tested true false is at in_it all more = more (and_parts (r x) (list_all r (filter p xs)) all).1
     tested false true is at in_it all more = let passes : p x ≡ true = in_it at in cc
     tested false false is at in_it all more = more all
 
@@ -118,9 +80,9 @@ module _ (started : List Start) where
           (a b : Bool) → p x ≡ a → q x ≡ b → IsWithin p q x → All (IsWithin p q) xs → are_nested started (if a then x ∷ filter p xs else filter p xs) ≡ true → (are_nested started (filter p xs) ≡ true → are_nested started (filter q xs) ≡ true)
           → are_nested started (if b then x ∷ filter q xs else filter q xs) ≡ true
       tested true true is at in_it rest nested more =
-          both (list_all (over x) (filter q xs)) (are_nested started (filter q xs)) (all-narrow (over x) p q xs rest (first-of (list_all (over x) (filter p xs)) (are_nested started (filter p xs)) nested))
-          (more (second-of (list_all (over x) (filter p xs)) (are_nested started (filter p xs)) nested))
-      tested true false is at in_it rest nested more = more (second-of (list_all (over x) (filter p xs)) (are_nested started (filter p xs)) nested)
+          and_from (list_all (over x) (filter q xs)) (are_nested started (filter q xs)) (all-narrow (over x) p q xs rest (and_parts (list_all (over x) (filter p xs)) (are_nested started (filter p xs)) nested).0)
+          (more (and_parts (list_all (over x) (filter p xs)) (are_nested started (filter p xs)) nested).1)
+      tested true false is at in_it rest nested more = more (and_parts (list_all (over x) (filter p xs)) (are_nested started (filter p xs)) nested).1
       tested false true is at in_it rest nested more = let passes : p x ≡ true = in_it at in cc
       tested false false is at in_it rest nested more = more nested
 
@@ -132,8 +94,8 @@ module _ (started : List Start) where
       tested :
           (a : Bool) → p x ≡ a → (b : Bool) → list_all r (if a then x ∷ filter p xs else filter p xs) ≡ true → (list_all r (filter p xs) ≡ true → list_all r (filter p (released id xs)) ≡ true)
           → list_all r (filter p (if b then xs else x ∷ released id xs)) ≡ true
-      tested true is true all more = second-of (r x) (list_all r (filter p xs)) all
-      tested true is false all more = rw is (both (r x) (list_all r (filter p (released id xs))) (first-of (r x) (list_all r (filter p xs)) all) (more (second-of (r x) (list_all r (filter p xs)) all)))
+      tested true is true all more = (and_parts (r x) (list_all r (filter p xs)) all).1
+      tested true is false all more = rw is (and_from (r x) (list_all r (filter p (released id xs))) (and_parts (r x) (list_all r (filter p xs)) all).0 (more (and_parts (r x) (list_all r (filter p xs)) all).1))
       tested false is true all more = all
       tested false is false all more = rw is (more all)
 
@@ -144,10 +106,10 @@ module _ (started : List Start) where
       tested :
           (a : Bool) → p x ≡ a → (b : Bool) → are_nested started (if a then x ∷ filter p xs else filter p xs) ≡ true → (are_nested started (filter p xs) ≡ true → are_nested started (filter p (released id xs)) ≡ true)
           → are_nested started (filter p (if b then xs else x ∷ released id xs)) ≡ true
-      tested true is true nested more = second-of (list_all (over x) (filter p xs)) (are_nested started (filter p xs)) nested
+      tested true is true nested more = (and_parts (list_all (over x) (filter p xs)) (are_nested started (filter p xs)) nested).1
       tested true is false nested more =
-          rw is (both (list_all (over x) (filter p (released id xs))) (are_nested started (filter p (released id xs))) (all-freed (over x) p id xs (first-of (list_all (over x) (filter p xs)) (are_nested started (filter p xs)) nested))
-          (more (second-of (list_all (over x) (filter p xs)) (are_nested started (filter p xs)) nested)))
+          rw is (and_from (list_all (over x) (filter p (released id xs))) (are_nested started (filter p (released id xs))) (all-freed (over x) p id xs (and_parts (list_all (over x) (filter p xs)) (are_nested started (filter p xs)) nested).0)
+          (more (and_parts (list_all (over x) (filter p xs)) (are_nested started (filter p xs)) nested).1))
       tested false is true nested more = nested
       tested false is false nested more = rw is (more nested)
 
@@ -159,19 +121,19 @@ module _ (started : List Start) where
   -- of two that are nested one is under the other
   one-of : (first : ℕ) (later : List ℕ) (x : ℕ) → list_all (over first) later ≡ true → Contains later x → is_under started x first ≡ true
   one-of first [] x all has = absurd (omega (arith, has.1))
-  one-of first (y ∷ ys) x all (zero, low, at) = rw at at (first-of (over first y) (list_all (over first) ys) all)
-  one-of first (y ∷ ys) x all (suc k, low, at) = one-of first ys x (second-of (over first y) (list_all (over first) ys) all) (k, omega (arith, low), at)
+  one-of first (y ∷ ys) x all (zero, low, at) = rw at at (and_parts (over first y) (list_all (over first) ys) all).0
+  one-of first (y ∷ ys) x all (suc k, low, at) = one-of first ys x (and_parts (over first y) (list_all (over first) ys) all).1 (k, omega (arith, low), at)
 
   in-line : (xs : List ℕ) (a b : ℕ) → are_nested started xs ≡ true → Contains xs a → Contains xs b → (is_under started a b ≡ true) ⊎ (is_under started b a ≡ true)
   in-line [] a b nested has other = absurd (omega (arith, has.1))
   in-line (x ∷ xs) a b nested (zero, low, at) (zero, less, is) = let same : a ≡ b = sym at ∙ is in inl (rw same (rw (itself b) refl))
   in-line (x ∷ xs) a b nested (zero, low, at) (suc k, less, is) =
-      let under = one-of x xs b (first-of (list_all (over x) xs) (are_nested started xs) nested) (k, omega (arith, less), is) in
+      let under = one-of x xs b (and_parts (list_all (over x) xs) (are_nested started xs) nested).0 (k, omega (arith, less), is) in
       inr (rw at at under)
   in-line (x ∷ xs) a b nested (suc k, low, at) (zero, less, is) =
-      let under = one-of x xs a (first-of (list_all (over x) xs) (are_nested started xs) nested) (k, omega (arith, low), at) in
+      let under = one-of x xs a (and_parts (list_all (over x) xs) (are_nested started xs) nested).0 (k, omega (arith, low), at) in
       inl (rw is at under)
-  in-line (x ∷ xs) a b nested (suc k, low, at) (suc n, less, is) = in-line xs a b (second-of (list_all (over x) xs) (are_nested started xs) nested) (k, omega (arith, low), at) (n, omega (arith, less), is)
+  in-line (x ∷ xs) a b nested (suc k, low, at) (suc n, less, is) = in-line xs a b (and_parts (list_all (over x) xs) (are_nested started xs) nested).1 (k, omega (arith, low), at) (n, omega (arith, less), is)
 
 -- how many of some locks are those of a sequence
 abbrev own : ℕ → List ℕ → ℕ
@@ -203,7 +165,7 @@ kept-own id other [] apart = omega arith
 kept-own id other (x ∷ xs) apart = by ((x == other) && not (is_held other xs)) refl (kept-own id other xs apart)
   where
     by : (gone : Bool) → ((x == other) && not (is_held other xs)) ≡ gone → own id xs ≤ 0 + own id (released other xs) → own id (x ∷ xs) ≤ 0 + own id (if gone then xs else x ∷ released other xs)
-    by true is low = rw (apart-from x id other (first-of (x == other) (not (is_held other xs)) is) apart) (omega arith)
+    by true is low = rw (apart-from x id other (and_parts (x == other) (not (is_held other xs)) is).0 apart) (omega arith)
     by false is low = both-more x (filter (λ (one : ℕ). one == id) xs) (filter (λ (one : ℕ). one == id) (released other xs)) 0 (x == id) low
 
 pushed-own : (id seq : ℕ) (held : List ℕ) → own id (held ++ seq ∷ []) ≡ own id held + length (if seq == id then seq ∷ [] else [])
@@ -264,40 +226,40 @@ kept-holds between before node id kept =
 -- who lives was started on some sequencer
 live-somewhere : (history : List Entry) (id : ℕ) → is_live history id ≡ true → (home : ℕ) × IsLiving history id home
 unfolding is_live
-live-somewhere history id lives_on = by (numbered (begun_of history) id) refl lives_on
+live-somewhere history id lives_on = by (numbered (starts_of history) id) refl lives_on
   where
-    by : (found : Option Beginning) → numbered (begun_of history) id ≡ found → option_map_or (lives history id) found false ≡ true → (home : ℕ) × IsLiving history id home
+    by : (found : Option StartRecord) → numbered (starts_of history) id ≡ found → option_map_or (lives history id) found false ≡ true → (home : ℕ) × IsLiving history id home
     by None is alive = cc
-    by (Some beginning) is alive = (beginning.start.home, record { lives = lives_on; home_is = ap (option_map (λ (one : Beginning). one.start.home)) is })
+    by (Some start_record) is alive = (start_record.start.home, record { lives = lives_on; home_is = ap (option_map (λ (one : StartRecord). one.start.home)) is })
 
-lived : (entry : Entry) (before : List Entry) (id : ℕ) → id ≤ length (begun_of before) → is_live (entry ∷ before) id ≡ true → is_live before id ≡ true
+lived : (entry : Entry) (before : List Entry) (id : ℕ) → id ≤ length (starts_of before) → is_live (entry ∷ before) id ≡ true → is_live before id ≡ true
 lived entry before id low alive = let l = live-somewhere (entry ∷ before) id alive in (living_lived entry before id l.0 low l.1).lives
 
 -- what is known of the locks that are held at a sequencer
 record AreHolding (history : List Entry) (node : ℕ) : Type 0 where
   nested : are_nested (sequences_of history) (holders history node) ≡ true
-  begun : All (λ id. id ≤ length (begun_of history)) (locks_held history node)
+  begun : All (λ id. id ≤ length (starts_of history)) (locks_held history node)
 
 -- the lock that is granted leaves them nested
 abbrev GrowsBy : List Entry → ℕ × ℕ → Type 0
 GrowsBy before led = are_nested (sequences_of before) (holders before led.0) ≡ true → are_nested (sequences_of before) (holders before led.0 ++ led.1 ∷ []) ≡ true
 
-module _ (keeps : OrderKeepsAll Owner (Option Call)) (excludes : sequencer.LockExcludes) (stay : sequencer.HoldersStayNested) where
+module _ (keeps : OrderKeepsAll EventTarget (Option Call)) (excludes : sequencer.LockExcludes) (stay : sequencer.HoldersStayNested) where
   -- one more sequence
   still-nested : (entry : Entry) (before : List Entry) (held : List ℕ) → are_nested (sequences_of before) held ≡ true → are_nested (sequences_of (entry ∷ before)) held ≡ true
   still-nested (Did performer (Started id) act) before held nested = stay.starts (start_by (nodes_of before) (sequences_of before) performer act) (sequences_of before) held nested
   still-nested (Did performer outcome act) before held nested = nested
   still-nested entry before held nested = nested
 
-  begun-still : (entry : Entry) (before : List Entry) (held : List ℕ) → All (λ id. id ≤ length (begun_of before)) held → All (λ id. id ≤ length (begun_of (entry ∷ before))) held
+  begun-still : (entry : Entry) (before : List Entry) (held : List ℕ) → All (λ id. id ≤ length (starts_of before)) held → All (λ id. id ≤ length (starts_of (entry ∷ before))) held
   begun-still entry before held all =
       let more = begun-count entry before in
-      All-weaker (λ id. id ≤ length (begun_of before)) (λ id. id ≤ length (begun_of (entry ∷ before))) (λ id low. omega (arith, more, low)) held all
+      All-weaker (λ id. id ≤ length (starts_of before)) (λ id. id ≤ length (starts_of (entry ∷ before))) (λ id low. omega (arith, more, low)) held all
 
   -- whoever lives still, of those that are held
-  fewer-live : (entry : Entry) (before : List Entry) (held : List ℕ) → All (λ id. id ≤ length (begun_of before)) held → are_nested (sequences_of before) (filter (is_live before) held) ≡ true → are_nested (sequences_of (entry ∷ before)) (filter (is_live (entry ∷ before)) held) ≡ true
+  fewer-live : (entry : Entry) (before : List Entry) (held : List ℕ) → All (λ id. id ≤ length (starts_of before)) held → are_nested (sequences_of before) (filter (is_live before) held) ≡ true → are_nested (sequences_of (entry ∷ before)) (filter (is_live (entry ∷ before)) held) ≡ true
   fewer-live entry before held all nested =
-      narrow (sequences_of (entry ∷ before)) (is_live before) (is_live (entry ∷ before)) held (All-weaker (λ id. id ≤ length (begun_of before)) (IsWithin (is_live before) (is_live (entry ∷ before))) (lived entry before) held all)
+      narrow (sequences_of (entry ∷ before)) (is_live before) (is_live (entry ∷ before)) held (All-weaker (λ id. id ≤ length (starts_of before)) (IsWithin (is_live before) (is_live (entry ∷ before))) (lived entry before) held all)
       (still-nested entry before (filter (is_live before) held) nested)
 
   freed-all : (P : ℕ → Type 0) (id : ℕ) (xs : List ℕ) → All P xs → All P (released id xs)
@@ -314,12 +276,12 @@ module _ (keeps : OrderKeepsAll Owner (Option Call)) (excludes : sequencer.LockE
   back-all P true (Some id) xs all = freed-all P id xs all
 
   -- one more lock
-  locked-low : (script : ScriptValue) (before : List Entry) (node id : ℕ) → EachIsNext script before → IsNext script before (Locked node id) → (is_live before id ≡ true) × (id ≤ length (begun_of before))
-  locked-low script before node id each next = let there = lockers_are_there keeps excludes script before node id each (lock-alone node id (next_of script before) next) in (there.lives, by (numbered (begun_of before) id) refl there.home_is)
+  locked-low : (script : ScriptValue) (before : List Entry) (node id : ℕ) → EachIsNext script before → IsNext script before (Locked node id) → (is_live before id ≡ true) × (id ≤ length (starts_of before))
+  locked-low script before node id each next = let there = lockers_are_there keeps excludes script before node id each (exactly (Locked node id) (next_of script before) tt next) in (there.lives, by (numbered (starts_of before) id) refl there.home_is)
     where
-      by : (found : Option Beginning) → numbered (begun_of before) id ≡ found → option_map (λ beginning. beginning.start.home) found ≡ Some node → id ≤ length (begun_of before)
+      by : (found : Option StartRecord) → numbered (starts_of before) id ≡ found → option_map (λ start_record. start_record.start.home) found ≡ Some node → id ≤ length (starts_of before)
       by None is e = cc
-      by (Some beginning) is e = numbered-within (begun_of before) id beginning is
+      by (Some start_record) is e = numbered-within (starts_of before) id start_record is
 
   pushed : (before : List Entry) (node id : ℕ) → next_locked before ≡ Some (node, id) → are_nested (sequences_of before) (holders before node) ≡ true → are_nested (sequences_of before) (holders before node ++ id ∷ []) ≡ true
   pushed before node id is =
@@ -328,19 +290,19 @@ module _ (keeps : OrderKeepsAll Owner (Option Call)) (excludes : sequencer.LockE
   holding-locked : (script : ScriptValue) (before : List Entry) (node other id : ℕ) → EachIsNext script before → IsNext script before (Locked other id) → AreHolding before node → AreHolding (Locked other id ∷ before) node
   holding-locked script before node other id each next was = by (other == node) refl
     where
-      low : (is_live before id ≡ true) × (id ≤ length (begun_of before))
+      low : (is_live before id ≡ true) × (id ≤ length (starts_of before))
       low = locked-low script before other id each next
 
-      after : (held : List ℕ) → All (λ id. id ≤ length (begun_of before)) held → are_nested (sequences_of before) (filter (is_live before) held) ≡ true → are_nested (sequences_of (Locked other id ∷ before)) (filter (is_live (Locked other id ∷ before)) held) ≡ true
+      after : (held : List ℕ) → All (λ id. id ≤ length (starts_of before)) held → are_nested (sequences_of before) (filter (is_live before) held) ≡ true → are_nested (sequences_of (Locked other id ∷ before)) (filter (is_live (Locked other id ∷ before)) held) ≡ true
       after held all nested = fewer-live (Locked other id) before held all nested
 
       by : (here : Bool) → (other == node) ≡ here → AreHolding (Locked other id ∷ before) node
       by true is =
           let same : other ≡ node = grind (arith, nat_tests, is) in
-          let led : next_locked before ≡ Some (node, id) = subst (λ (n : ℕ). next_locked before ≡ Some (n, id)) same (lock-next script before other id next) in
+          let led : next_locked before ≡ Some (node, id) = subst (λ (n : ℕ). next_locked before ≡ Some (n, id)) same (comes script before (Locked other id) next) in
           let more = pushed before node id led was.nested in
           let split : filter (is_live before) (locks_held before node ++ id ∷ []) ≡ holders before node ++ id ∷ [] = filter-append (is_live before) (locks_held before node) (id ∷ []) ∙ rw low.0 refl in
-          let all = All-push (λ id. id ≤ length (begun_of before)) (locks_held before node) id was.begun low.1 in
+          let all = All-push (λ id. id ≤ length (starts_of before)) (locks_held before node) id was.begun low.1 in
           record { nested = rw is (after (locks_held before node ++ id ∷ []) all (rw split more)); begun = rw is all }
       by false is = record { nested = rw is (after (locks_held before node) was.begun was.nested); begun = rw is was.begun }
 
@@ -350,7 +312,7 @@ module _ (keeps : OrderKeepsAll Owner (Option Call)) (excludes : sequencer.LockE
       let entry = Did performer outcome act in
       let gives = unlocks outcome act in
       let id = sequence_on node performer in
-      let all = back-all (λ id. id ≤ length (begun_of before)) gives id (locks_held before node) was.begun in
+      let all = back-all (λ id. id ≤ length (starts_of before)) gives id (locks_held before node) was.begun in
       record {
         nested = fewer-live entry before (given_back gives id (locks_held before node)) all (back (sequences_of before) (is_live before) gives id (locks_held before node) was.nested);
         begun = begun-still entry before (given_back gives id (locks_held before node)) all;
@@ -362,9 +324,9 @@ module _ (keeps : OrderKeepsAll Owner (Option Call)) (excludes : sequencer.LockE
   holding-of script (entry ∷ before) node each = holding-more script before entry node each.1 each.0 (holding-of script before node each.1)
 
   granted-over : (script : ScriptValue) (before : List Entry) (node to : ℕ) (entry : Entry) → IsNext script before entry → Grants node to entry → AreOver before node to
-  granted-over script before node to (Granted other grant) next is = subst (λ (n : ℕ). AreOver before n to) is.0 (subst (AreOver before other) is.1 (item-under excludes before other grant.id grant.word (grant-next script before other grant next)))
+  granted-over script before node to (Granted other grant) next is = subst (λ (n : ℕ). AreOver before n to) is.0 (subst (AreOver before other) is.1 (item-under excludes before other grant.id grant.word (comes script before (Granted other grant) next).chosen))
   granted-over script before node to (Locked other id) next is =
-      let over : AreOver before other id = subst (λ (led : Option (ℕ × ℕ)). IfSome led (λ led. AreOver before led.0 led.1)) (lock-next script before other id next) (lock-under excludes before) in
+      let over : AreOver before other id = subst (λ (led : Option (ℕ × ℕ)). IfSome led (λ led. AreOver before led.0 led.1)) (comes script before (Locked other id) next) (lock-under excludes before) in
       subst (λ (n : ℕ). AreOver before n to) is.0 (subst (AreOver before other) is.1 over)
   granted-over script before node to entry next is = absurd is
 

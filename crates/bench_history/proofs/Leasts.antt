@@ -1,8 +1,5 @@
 -- The least of some numbers.
-use Rattle.std.proofs.Common.{ℕ, Bool, true, false, List, [], ◌∷◌, fold, Option, Some, None, IfSome, if◌then◌else◌}
-use Rattle.std.specs.List.{All}
-use Rattle.std.proofs.lemmas.List.Elements.{All-head, All-tail}
-use Rattle.uvm_tree.specs.Cursors.{sooner, least}
+use Rattle.bench_history.proofs.Common.{ℕ, Bool, true, false, List, [], ◌∷◌, fold, Option, Some, None, IfSome, if◌then◌else◌, All-head, All-tail, sooner, least, All}
 
 -- the least of some numbers is one of them
 sooner-holds : (P : ℕ → Type 0) (before : ℕ → ℕ → Bool) (best : Option ℕ) (n : ℕ) → IfSome best P → P n → IfSome (sooner before best n) P

@@ -1,29 +1,6 @@
 -- The sequences that end lived until then.
-use Rattle.std.proofs.Common.{◌≡◌, ℕ, zero, suc, ◌<◌, ◌≤◌, ◌==◌, Bool, true, false, not, ◌&&◌, ◌||◌, filter, if◌then◌else◌, List, [], ◌∷◌, ◌++◌, length, Option, Some, None, option_map, refl, ap, ◌∙◌, sym, subst, arith}
-use Rattle.uvm_sequencer.specs.Laws.{LockExcludes}
-use Rattle.std.specs.Option.{option_map_or}
-use Rattle.std.specs.List.{All, Contains, list_any}
-use Rattle.std.proofs.lemmas.Bool.Decides.{nat_tests}
-use Rattle.std.proofs.lemmas.List.Elements.{All-nil, All-cons, All-head, All-tail, All-push, All-weaker, All-filter, Contains-append_left, Contains-push, filter_passes}
-use Rattle.uvm_phase.specs.declared.phases.Phase.{Phase}
-use Rattle.uvm_phase.specs.Phases.{same_phase}
-use Rattle.uvm_phase.specs.Laws.{OrderKeepsAll}
-use Rattle.uvm_sequences.specs.Sequences.{numbered}
-use Rattle.uvm_tree.specs.Nodes.{Node}
-use Rattle.uvm_object.specs.Objects.{same_who}
-use Rattle.uvm_acts.specs.declared.acts.Who.{Who}
+use Rattle.bench_history.proofs.Common.{◌≡◌, ℕ, zero, suc, ◌<◌, ◌≤◌, ◌==◌, Bool, true, false, not, ◌&&◌, filter, if◌then◌else◌, List, [], ◌∷◌, ◌++◌, length, Option, Some, None, option_map, refl, ap, ◌∙◌, sym, subst, arith, and_parts, or_parts, option_map_or, list_any, nat_tests, All-nil, All-cons, All-head, All-tail, All-push, All-weaker, All-filter, Contains-append_left, Contains-push, filter_passes, Phase, same_phase, OrderKeepsAll, numbered, same_who, Who, Call, Act, Outcome, Started, Finished, Entry, End, Did, EventTarget, nodes_of, ended_of, ended_in, act_phase, StartRecord, all_begun, begun_after, starts_of, finished_of, finished_in, is_live, is_living, is_over_phase, leaving_of, leaving_after, lives, IsNext, IsLiving, IsLivingSequence, LivingLived, AreRising, LeaversLived, number_of, LockExcludes, All, Contains, Node}
 use Rattle.uvm_acts.specs.declared.acts.Who.TheVariants as who
-use Rattle.uvm_acts.specs.declared.acts.Call.{Call}
-use Rattle.uvm_acts.specs.declared.acts.Act.{Act}
-use Rattle.uvm_object.specs.declared.entries.Outcome.{Outcome}
-use Rattle.uvm_object.specs.declared.entries.Outcome.TheVariants.{Started, Finished}
-use Rattle.uvm_object.specs.declared.entries.Entry.{Entry}
-use Rattle.uvm_object.specs.declared.entries.Entry.TheVariants.{End, Did}
-use Rattle.bench_history.specs.declared.owners.Owner.{Owner}
-use Rattle.bench_history.specs.History.{nodes_of, ended_of, ended_in, act_phase}
-use Rattle.bench_history.specs.Sequences.{Beginning, all_begun, begun_after, begun_of, finished_of, finished_in, is_live, is_living, is_over_phase, leaving_of, leaving_after, lives}
-use Rattle.bench_history.specs.Next.{IsNext}
-use Rattle.bench_history.specs.Laws.{IsLiving, IsLivingSequence, LivingLived, AreRising, LeaversLived, number_of}
 use Rattle.bench_history.proofs.Living.{begun-more, numbered-more, numbered-newest}
 use Rattle.bench_history.proofs.Expected.{both-hold}
 use Rattle.bench_history.proofs.Called.{finisher_lives}
@@ -34,22 +11,18 @@ numbered-before y xs n low =
     let differs : (n == length (y ∷ xs)) ≡ false = grind (arith, nat_tests, low) in
     rw differs refl
 
-begun-after-before : (nodes : List Node) (phase : Option Phase) (begun : List Beginning) (performer : Who) (outcome : Outcome) (act : Act) (id : ℕ) → id ≤ length begun → numbered (begun_after nodes phase begun performer outcome act) id ≡ numbered begun id
+begun-after-before : (nodes : List Node) (phase : Option Phase) (begun : List StartRecord) (performer : Who) (outcome : Outcome) (act : Act) (id : ℕ) → id ≤ length begun → numbered (begun_after nodes phase begun performer outcome act) id ≡ numbered begun id
 begun-after-before nodes phase begun performer (Started new) act id low = numbered-before _ begun id low
 begun-after-before nodes phase begun performer outcome act id low = refl
 
-begun-before : (entry : Entry) (before : List Entry) (id : ℕ) → id ≤ length (begun_of before) → numbered (begun_of (entry ∷ before)) id ≡ numbered (begun_of before) id
-begun-before (Did performer outcome act) before id low = begun-after-before (nodes_of before) (act_phase before) (begun_of before) performer outcome act id low
+begun-before : (entry : Entry) (before : List Entry) (id : ℕ) → id ≤ length (starts_of before) → numbered (starts_of (entry ∷ before)) id ≡ numbered (starts_of before) id
+begun-before (Did performer outcome act) before id low = begun-after-before (nodes_of before) (act_phase before) (starts_of before) performer outcome act id low
 begun-before entry before id low = refl
 
 -- what is not among more is not among fewer
-or-right : (b c : Bool) → b || c ≡ false → c ≡ false
-or-right true c e = cc
-or-right false c e = e
-
 none-fewer : {X : Type 0} (p : X → Bool) (xs ys : List X) → list_any p (xs ++ ys) ≡ false → list_any p ys ≡ false
 none-fewer p [] ys e = e
-none-fewer p (x ∷ xs) ys e = none-fewer p xs ys (or-right (p x) (list_any p (xs ++ ys)) e)
+none-fewer p (x ∷ xs) ys e = none-fewer p xs ys (or_parts (p x) (list_any p (xs ++ ys)) e).1
 
 not-fewer : (b c : Bool) → (b ≡ false → c ≡ false) → not b ≡ true → not c ≡ true
 not-fewer true c fewer e = cc
@@ -60,33 +33,29 @@ and-both true true c d first second e = rw (first refl, second refl) refl
 and-both true false c d first second e = cc
 and-both false b c d first second e = cc
 
-and-first : (a b : Bool) → a && b ≡ true → a ≡ true
-and-first true b e = refl
-and-first false b e = e
-
 -- who lives after an entry has lived, if he was started
 over-fewer : (entry : Entry) (before : List Entry) (phase : Option Phase) → not (is_over_phase (ended_of (entry ∷ before)) phase) ≡ true → not (is_over_phase (ended_of before) phase) ≡ true
 over-fewer entry before None e = cc
 over-fewer entry before (Some phase) e = not-fewer (list_any (same_phase phase) (ended_of (entry ∷ before))) (list_any (same_phase phase) (ended_of before)) (none-fewer (same_phase phase) (ended_in entry) (ended_of before)) e
 
-lives-fewer : (entry : Entry) (before : List Entry) (id : ℕ) (beginning : Beginning) → lives (entry ∷ before) id beginning ≡ true → lives before id beginning ≡ true
-lives-fewer entry before id beginning e =
-    and-both _ (not (is_over_phase (ended_of (entry ∷ before)) beginning.phase)) _ (not (is_over_phase (ended_of before) beginning.phase))
-    (not-fewer (list_any (same_who (who.Sequence beginning.start.home id)) (finished_of (entry ∷ before))) (list_any (same_who (who.Sequence beginning.start.home id)) (finished_of before))
-    (none-fewer (same_who (who.Sequence beginning.start.home id)) (finished_in entry) (finished_of before)))
-    (over-fewer entry before beginning.phase) e
+lives-fewer : (entry : Entry) (before : List Entry) (id : ℕ) (start_record : StartRecord) → lives (entry ∷ before) id start_record ≡ true → lives before id start_record ≡ true
+lives-fewer entry before id start_record e =
+    and-both _ (not (is_over_phase (ended_of (entry ∷ before)) start_record.phase)) _ (not (is_over_phase (ended_of before) start_record.phase))
+    (not-fewer (list_any (same_who (who.Sequence start_record.start.home id)) (finished_of (entry ∷ before))) (list_any (same_who (who.Sequence start_record.start.home id)) (finished_of before))
+    (none-fewer (same_who (who.Sequence start_record.start.home id)) (finished_in entry) (finished_of before)))
+    (over-fewer entry before start_record.phase) e
 
-live-fewer : (entry : Entry) (before : List Entry) (id : ℕ) (found : Option Beginning) → option_map_or (lives (entry ∷ before) id) found false ≡ true → option_map_or (lives before id) found false ≡ true
+live-fewer : (entry : Entry) (before : List Entry) (id : ℕ) (found : Option StartRecord) → option_map_or (lives (entry ∷ before) id) found false ≡ true → option_map_or (lives before id) found false ≡ true
 live-fewer entry before id None e = e
-live-fewer entry before id (Some beginning) e = lives-fewer entry before id beginning e
+live-fewer entry before id (Some start_record) e = lives-fewer entry before id start_record e
 
 pub living_lived : LivingLived
 unfolding is_live
 living_lived entry before id home low living =
     let same = begun-before entry before id low in
     record {
-      lives = live-fewer entry before id (numbered (begun_of before) id) (rw same at living.lives);
-      home_is = ap (option_map (λ (beginning : Beginning). beginning.start.home)) (sym same) ∙ living.home_is;
+      lives = live-fewer entry before id (numbered (starts_of before) id) (rw same at living.lives);
+      home_is = ap (option_map (λ (start_record : StartRecord). start_record.start.home)) (sym same) ∙ living.home_is;
     }
 
 -- all that were started go in rising number
@@ -103,49 +72,49 @@ rising-filter p (x ∷ xs) rising = tested (p x) (All-filter p (λ other. number
     tested true above rest = (above, rest)
     tested false above rest = rest
 
-begun-numbers : (begun : List Beginning) → All (λ who. number_of who ≤ length begun) (all_begun begun)
+begun-numbers : (begun : List StartRecord) → All (λ who. number_of who ≤ length begun) (all_begun begun)
 begun-numbers [] = All-nil _
-begun-numbers (beginning ∷ older) =
-    All-push (λ who. number_of who ≤ length (beginning ∷ older)) (all_begun older) _
-    (All-weaker (λ who. number_of who ≤ length older) (λ who. number_of who ≤ length (beginning ∷ older)) (λ who low. omega (arith, low)) (all_begun older) (begun-numbers older)) (omega arith)
+begun-numbers (start_record ∷ older) =
+    All-push (λ who. number_of who ≤ length (start_record ∷ older)) (all_begun older) _
+    (All-weaker (λ who. number_of who ≤ length older) (λ who. number_of who ≤ length (start_record ∷ older)) (λ who low. omega (arith, low)) (all_begun older) (begun-numbers older)) (omega arith)
 
-begun-rising : (begun : List Beginning) → AreRising (all_begun begun)
+begun-rising : (begun : List StartRecord) → AreRising (all_begun begun)
 begun-rising [] = tt
-begun-rising (beginning ∷ older) =
+begun-rising (start_record ∷ older) =
     rising-push (all_begun older) _ (begun-rising older)
-    (All-weaker (λ who. number_of who ≤ length older) (λ who. number_of who < length (beginning ∷ older)) (λ who low. omega (arith, low)) (all_begun older) (begun-numbers older))
+    (All-weaker (λ who. number_of who ≤ length older) (λ who. number_of who < length (start_record ∷ older)) (λ who low. omega (arith, low)) (all_begun older) (begun-numbers older))
 
 -- each was started on its sequencer
-abbrev HasHome : List Beginning → Who → Type 0
+abbrev HasHome : List StartRecord → Who → Type 0
 HasHome begun (who.Node node) = ⊥
-HasHome begun (who.Sequence home id) = option_map (λ beginning. beginning.start.home) (numbered begun id) ≡ Some home
+HasHome begun (who.Sequence home id) = option_map (λ start_record. start_record.start.home) (numbered begun id) ≡ Some home
 
-home-more : (beginning : Beginning) (older : List Beginning) (who : Who) → HasHome older who → HasHome (beginning ∷ older) who
-home-more beginning older (who.Node node) has = absurd has
-home-more beginning older (who.Sequence home id) has = by (numbered older id) refl has
+home-more : (start_record : StartRecord) (older : List StartRecord) (who : Who) → HasHome older who → HasHome (start_record ∷ older) who
+home-more start_record older (who.Node node) has = absurd has
+home-more start_record older (who.Sequence home id) has = by (numbered older id) refl has
   where
-    by : (found : Option Beginning) → numbered older id ≡ found → option_map (λ beginning. beginning.start.home) found ≡ Some home → HasHome (beginning ∷ older) (who.Sequence home id)
+    by : (found : Option StartRecord) → numbered older id ≡ found → option_map (λ start_record. start_record.start.home) found ≡ Some home → HasHome (start_record ∷ older) (who.Sequence home id)
     by None is has = cc
-    by (Some first) is has = ap (option_map (λ (beginning : Beginning). beginning.start.home)) (numbered-more beginning older id first is) ∙ has
+    by (Some first) is has = ap (option_map (λ (start_record : StartRecord). start_record.start.home)) (numbered-more start_record older id first is) ∙ has
 
-begun-homes : (begun : List Beginning) → All (HasHome begun) (all_begun begun)
+begun-homes : (begun : List StartRecord) → All (HasHome begun) (all_begun begun)
 begun-homes [] = All-nil _
-begun-homes (beginning ∷ older) =
-    All-push (HasHome (beginning ∷ older)) (all_begun older) _ (All-weaker (HasHome older) (HasHome (beginning ∷ older)) (home-more beginning older) (all_begun older) (begun-homes older))
-    (ap (option_map (λ (one : Beginning). one.start.home)) (numbered-newest beginning older (length (beginning ∷ older)) (omega arith)))
+begun-homes (start_record ∷ older) =
+    All-push (HasHome (start_record ∷ older)) (all_begun older) _ (All-weaker (HasHome older) (HasHome (start_record ∷ older)) (home-more start_record older) (all_begun older) (begun-homes older))
+    (ap (option_map (λ (one : StartRecord). one.start.home)) (numbered-newest start_record older (length (start_record ∷ older)) (omega arith)))
 
 -- those that end with a phase
 abbrev ends_then : List Entry → Phase → Who → Bool
 ends_then before phase who = is_living before who && not (is_living (End phase ∷ before) who)
 
-ends-living : (before : List Entry) (phase : Phase) (who : Who) → HasHome (begun_of before) who → ends_then before phase who ≡ true → IsLivingSequence before who
+ends-living : (before : List Entry) (phase : Phase) (who : Who) → HasHome (starts_of before) who → ends_then before phase who ≡ true → IsLivingSequence before who
 ends-living before phase (who.Node node) has is = absurd has
-ends-living before phase (who.Sequence home id) has is = record { lives = and-first (is_live before id) _ is; home_is = has }
+ends-living before phase (who.Sequence home id) has is = record { lives = (and_parts (is_live before id) _ is).0; home_is = has }
 
 ended-lived : (before : List Entry) (phase : Phase) → All (IsLivingSequence before) (leaving_of (End phase ∷ before))
 ended-lived before phase =
-    both-hold (HasHome (begun_of before)) (λ who. ends_then before phase who ≡ true) (IsLivingSequence before) (filter (ends_then before phase) (all_begun (begun_of before))) (ends-living before phase)
-    (All-filter (ends_then before phase) (HasHome (begun_of before)) (all_begun (begun_of before)) (begun-homes (begun_of before))) (filter_passes (ends_then before phase) (all_begun (begun_of before)))
+    both-hold (HasHome (starts_of before)) (λ who. ends_then before phase who ≡ true) (IsLivingSequence before) (filter (ends_then before phase) (all_begun (starts_of before))) (ends-living before phase)
+    (All-filter (ends_then before phase) (HasHome (starts_of before)) (all_begun (starts_of before)) (begun-homes (starts_of before))) (filter_passes (ends_then before phase) (all_begun (starts_of before)))
 
 both-not : (a b : Bool) → a && not b ≡ true → b ≡ true → ⊥
 both-not true true e d = cc
@@ -158,24 +127,24 @@ ends-gone before phase (who.Sequence home id) is living = both-not (is_live befo
 
 ended-gone : (before : List Entry) (phase : Phase) → All (λ who. IsLivingSequence (End phase ∷ before) who → ⊥) (leaving_of (End phase ∷ before))
 ended-gone before phase =
-    All-weaker (λ who. ends_then before phase who ≡ true) (λ who. IsLivingSequence (End phase ∷ before) who → ⊥) (ends-gone before phase) (filter (ends_then before phase) (all_begun (begun_of before))) (filter_passes (ends_then before phase) (all_begun (begun_of before)))
+    All-weaker (λ who. ends_then before phase who ≡ true) (λ who. IsLivingSequence (End phase ∷ before) who → ⊥) (ends-gone before phase) (filter (ends_then before phase) (all_begun (starts_of before))) (filter_passes (ends_then before phase) (all_begun (starts_of before)))
 
 -- and the one that finishes
-finished-live : (before : List Entry) (performer : Who) (act : Act) (id : ℕ) → is_live (Did performer Finished act ∷ before) id ≡ option_map_or (lives (Did performer Finished act ∷ before) id) (numbered (begun_of before) id) false
+finished-live : (before : List Entry) (performer : Who) (act : Act) (id : ℕ) → is_live (Did performer Finished act ∷ before) id ≡ option_map_or (lives (Did performer Finished act ∷ before) id) (numbered (starts_of before) id) false
 unfolding is_live
 finished-live before performer act id = refl
 
 finished-gone : (before : List Entry) (performer : Who) (act : Act) → IsLivingSequence (Did performer Finished act ∷ before) performer → ⊥
 finished-gone before (who.Node node) act living = living
-finished-gone before (who.Sequence home id) act living = by (numbered (begun_of before) id) (sym (finished-live before (who.Sequence home id) act id) ∙ living.lives) living.home_is
+finished-gone before (who.Sequence home id) act living = by (numbered (starts_of before) id) (sym (finished-live before (who.Sequence home id) act id) ∙ living.lives) living.home_is
   where
     itself : (n : ℕ) → (n == n) ≡ true
     itself n = grind (arith, nat_tests)
 
-    by : (found : Option Beginning) → option_map_or (lives (Did (who.Sequence home id) Finished act ∷ before) id) found false ≡ true → option_map (λ beginning. beginning.start.home) found ≡ Some home → ⊥
+    by : (found : Option StartRecord) → option_map_or (lives (Did (who.Sequence home id) Finished act ∷ before) id) found false ≡ true → option_map (λ start_record. start_record.start.home) found ≡ Some home → ⊥
     by None alive at = cc
-    by (Some beginning) alive at =
-        let same : beginning.start.home ≡ home = cc in
+    by (Some start_record) alive at =
+        let same : start_record.start.home ≡ home = cc in
         let dead = rw (same, itself id, itself home) at alive in
         cc
 
@@ -193,43 +162,39 @@ rising-after performer outcome = tt
 
 -- a sequence whose life an entry does not end lives on
 found-stays :
-    (entry : Entry) (before : List Entry) (id home : ℕ) (found : Option Beginning) → ((beginning : Beginning) → lives before id beginning ≡ true → beginning.start.home ≡ home → lives (entry ∷ before) id beginning ≡ true)
-    → numbered (begun_of before) id ≡ found → option_map_or (lives before id) found false ≡ true → option_map (λ beginning. beginning.start.home) found ≡ Some home → IsLiving (entry ∷ before) id home
+    (entry : Entry) (before : List Entry) (id home : ℕ) (found : Option StartRecord) → ((start_record : StartRecord) → lives before id start_record ≡ true → start_record.start.home ≡ home → lives (entry ∷ before) id start_record ≡ true)
+    → numbered (starts_of before) id ≡ found → option_map_or (lives before id) found false ≡ true → option_map (λ start_record. start_record.start.home) found ≡ Some home → IsLiving (entry ∷ before) id home
 unfolding is_live
 found-stays entry before id home None on is alive at = cc
-found-stays entry before id home (Some beginning) on is alive at =
-    let same : beginning.start.home ≡ home = cc in
-    let still = begun-more entry before id beginning is in
-    record { lives = rw still (on beginning alive same); home_is = ap (option_map (λ (one : Beginning). one.start.home)) still ∙ at }
+found-stays entry before id home (Some start_record) on is alive at =
+    let same : start_record.start.home ≡ home = cc in
+    let still = begun-more entry before id start_record is in
+    record { lives = rw still (on start_record alive same); home_is = ap (option_map (λ (one : StartRecord). one.start.home)) still ∙ at }
 
 stays-living :
-    (entry : Entry) (before : List Entry) (id home : ℕ) → ((beginning : Beginning) → lives before id beginning ≡ true → beginning.start.home ≡ home → lives (entry ∷ before) id beginning ≡ true)
+    (entry : Entry) (before : List Entry) (id home : ℕ) → ((start_record : StartRecord) → lives before id start_record ≡ true → start_record.start.home ≡ home → lives (entry ∷ before) id start_record ≡ true)
     → IsLiving before id home → IsLiving (entry ∷ before) id home
 unfolding is_live
-stays-living entry before id home on living = found-stays entry before id home (numbered (begun_of before) id) on refl living.lives living.home_is
+stays-living entry before id home on living = found-stays entry before id home (numbered (starts_of before) id) on refl living.lives living.home_is
 
 -- so one that an entry ends is among those that finish with it
 plain-all : (entry : Entry) (before : List Entry) (id home : ℕ) → finished_in entry ≡ [] → ended_in entry ≡ [] → IsLiving before id home → (IsLiving (entry ∷ before) id home → ⊥) → Contains [] (who.Sequence home id)
-plain-all entry before id home finished ended living gone = absurd (gone (stays-living entry before id home (λ beginning alive at. rw (finished, ended) alive) living))
-
-and-second : (a b : Bool) → a && b ≡ true → b ≡ true
-and-second true b e = e
-and-second false b e = cc
+plain-all entry before id home finished ended living gone = absurd (gone (stays-living entry before id home (λ start_record alive at. rw (finished, ended) alive) living))
 
 same-is : (performer : Who) (id home : ℕ) → same_who (who.Sequence home id) performer ≡ true → performer ≡ who.Sequence home id
 same-is (who.Node node) id home same = cc
 same-is (who.Sequence there other) id home same =
-    let first = and-first (id == other) (home == there) same in
-    let second = and-second (id == other) (home == there) same in
+    let first = (and_parts (id == other) (home == there) same).0 in
+    let second = (and_parts (id == other) (home == there) same).1 in
     let number : other ≡ id = grind (arith, nat_tests, first) in
     let place : there ≡ home = grind (arith, nat_tests, second) in
     rw (number, place) refl
 
 other-stays :
-    (before : List Entry) (performer : Who) (act : Act) (id home : ℕ) → same_who (who.Sequence home id) performer ≡ false → (beginning : Beginning) → lives before id beginning ≡ true → beginning.start.home ≡ home
-    → lives (Did performer Finished act ∷ before) id beginning ≡ true
-other-stays before performer act id home other beginning alive at =
-    let differs : same_who (who.Sequence beginning.start.home id) performer ≡ false = rw at other in
+    (before : List Entry) (performer : Who) (act : Act) (id home : ℕ) → same_who (who.Sequence home id) performer ≡ false → (start_record : StartRecord) → lives before id start_record ≡ true → start_record.start.home ≡ home
+    → lives (Did performer Finished act ∷ before) id start_record ≡ true
+other-stays before performer act id home other start_record alive at =
+    let differs : same_who (who.Sequence start_record.start.home id) performer ≡ false = rw at other in
     rw differs alive
 
 left-all :
@@ -243,16 +208,16 @@ left-all before performer Finished act id home living gone = by (same_who (who.S
 left-all before performer outcome act id home living gone = plain-all (Did performer outcome act) before id home refl refl living gone
 
 -- or with its phase: who was started is among all that were
-started-there : (begun : List Beginning) (id home : ℕ) → option_map (λ beginning. beginning.start.home) (numbered begun id) ≡ Some home → Contains (all_begun begun) (who.Sequence home id)
+started-there : (begun : List StartRecord) (id home : ℕ) → option_map (λ start_record. start_record.start.home) (numbered begun id) ≡ Some home → Contains (all_begun begun) (who.Sequence home id)
 started-there [] id home e = cc
-started-there (beginning ∷ older) id home e = tested (id == length (beginning ∷ older)) refl e (started-there older id home)
+started-there (start_record ∷ older) id home e = tested (id == length (start_record ∷ older)) refl e (started-there older id home)
   where
-    tested : (newest : Bool) → (id == length (beginning ∷ older)) ≡ newest → option_map (λ beginning. beginning.start.home) (if newest then Some beginning else numbered older id) ≡ Some home
-        → (option_map (λ beginning. beginning.start.home) (numbered older id) ≡ Some home → Contains (all_begun older) (who.Sequence home id)) → Contains (all_begun (beginning ∷ older)) (who.Sequence home id)
+    tested : (newest : Bool) → (id == length (start_record ∷ older)) ≡ newest → option_map (λ start_record. start_record.start.home) (if newest then Some start_record else numbered older id) ≡ Some home
+        → (option_map (λ start_record. start_record.start.home) (numbered older id) ≡ Some home → Contains (all_begun older) (who.Sequence home id)) → Contains (all_begun (start_record ∷ older)) (who.Sequence home id)
     tested true is at earlier =
-        let number : id ≡ length (beginning ∷ older) = grind (arith, nat_tests, is) in
-        let place : beginning.start.home ≡ home = cc in
-        rw (number, ← place) (Contains-push (all_begun older) (who.Sequence beginning.start.home (length (beginning ∷ older))))
+        let number : id ≡ length (start_record ∷ older) = grind (arith, nat_tests, is) in
+        let place : start_record.start.home ≡ home = cc in
+        rw (number, ← place) (Contains-push (all_begun older) (who.Sequence start_record.start.home (length (start_record ∷ older))))
     tested false is at earlier = Contains-append_left (all_begun older) _ (who.Sequence home id) (earlier at)
 
 pub filter-has : {X : Type 0} (p : X → Bool) (xs : List X) (x : X) → p x ≡ true → Contains xs x → Contains (filter p xs) x
@@ -271,9 +236,9 @@ ended-all before phase id home living gone = by (is_live (End phase ∷ before) 
     by true on = absurd (gone (record { lives = on; home_is = living.home_is }))
     by false dead =
         let ends : ends_then before phase (who.Sequence home id) ≡ true = rw (living.lives, dead) refl in
-        filter-has (ends_then before phase) (all_begun (begun_of before)) (who.Sequence home id) ends (started-there (begun_of before) id home living.home_is)
+        filter-has (ends_then before phase) (all_begun (starts_of before)) (who.Sequence home id) ends (started-there (starts_of before) id home living.home_is)
 
-module _ (keeps : OrderKeepsAll Owner (Option Call)) (excludes : LockExcludes) where
+module _ (keeps : OrderKeepsAll EventTarget (Option Call)) (excludes : LockExcludes) where
   pub leavers_lived : LeaversLived
   leavers_lived script before (Did performer outcome act) each next = record {
     lived = left-after before performer outcome (λ finishes. finisher_lives keeps excludes script before performer act each (subst (λ (o : Outcome). IsNext script before (Did performer o act)) finishes next));
@@ -281,5 +246,5 @@ module _ (keeps : OrderKeepsAll Owner (Option Call)) (excludes : LockExcludes) w
     all = left-all before performer outcome act;
     rising = rising-after performer outcome;
   }
-  leavers_lived script before (End phase) each next = record { lived = ended-lived before phase; gone = ended-gone before phase; all = ended-all before phase; rising = rising-filter _ (all_begun (begun_of before)) (begun-rising (begun_of before)) }
+  leavers_lived script before (End phase) each next = record { lived = ended-lived before phase; gone = ended-gone before phase; all = ended-all before phase; rising = rising-filter _ (all_begun (starts_of before)) (begun-rising (starts_of before)) }
   leavers_lived script before entry each next = record { lived = All-nil _; gone = All-nil _; all = λ id home. plain-all entry before id home refl refl; rising = tt }

@@ -1,3 +1,4 @@
+mod Common
 mod Inversion
 mod Phased
 mod Performed
@@ -8,7 +9,7 @@ mod Asking
 mod Ended
 mod Living
 pub mod Served
-mod Deeds
+mod ActEntries
 mod Expected
 mod Called
 mod Awaiting

@@ -1,40 +1,7 @@
 -- Which sequences live: those whose phase runs, and that have not finished.
-use Rattle.std.proofs.Common.{◌≡◌, ℕ, suc, ◌≤◌, ◌==◌, Bool, true, false, ◌||◌, List, [], ◌∷◌, length, nat_lt, Option, Some, None, option_map, refl, ap, ◌∙◌, sym, subst, arith, if◌then◌else◌, ◌⊎◌, inl, inr, ◌++◌}
-use Rattle.std.specs.List.{All, list_any}
-use Rattle.std.proofs.lemmas.Bool.Decides.{nat_tests}
-use Rattle.std.proofs.lemmas.List.Elements.{All-head, All-tail}
-use Rattle.uvm_phase.specs.declared.phases.Phase.{Phase}
-use Rattle.uvm_phase.specs.Phases.{same_phase, is_runtime}
-use Rattle.uvm_sequences.specs.Sequences.{numbered}
-use Rattle.uvm_tree.specs.Nodes.{Node}
-use Rattle.uvm_phase.specs.declared.phases.Phase.TheVariants.{Run, PreReset, Reset, PostReset, PreConfigure, Configure, PostConfigure, PreMain, Main, PostMain, PreShutdown, Shutdown, PostShutdown, Build, Connect, EndOfElaboration, StartOfSimulation, Extract, Check, Report, Final}
-use Rattle.uvm_acts.specs.declared.acts.Who.{Who}
+use Rattle.bench_history.proofs.Common.{◌≡◌, ℕ, suc, ◌≤◌, ◌==◌, Bool, true, false, ◌||◌, List, [], ◌∷◌, length, nat_lt, Option, Some, None, option_map, refl, ap, ◌∙◌, sym, subst, arith, if◌then◌else◌, ◌⊎◌, inl, inr, ◌++◌, or_right, list_any, nat_tests, All-head, All-tail, Phase, same_phase, is_runtime, numbered, Run, PreReset, Reset, PostReset, PreConfigure, Configure, PostConfigure, PreMain, Main, PostMain, PreShutdown, Shutdown, PostShutdown, Build, EndOfElaboration, StartOfSimulation, Extract, Check, Report, Final, Who, same_who, node_of, Act, TooManyActs, Outcome, Started, Reason, Passage, Entry, Begin, End, Did, Note, Over, ScriptValue, RunStage, Before, During, After, Ended, most_acts, stage_of, running, nodes_of, remaining_acts, performer_of, ended_of, act_phase, in_progress, reason_of, StartRecord, begun_after, starts_of, finished_of, is_live, next_passed, next_locked, next_served, Effect, Needs, ComesTo, effect_of, Next, Exactly, end_reached, giving_up, locking, serving, passing, long_answer, first_act, by_effect, phase_to_begin, first_next, next_of, IsNext, IsLiving, PhasesBeginBehind, All, Node, Connect}
 use Rattle.uvm_acts.specs.declared.acts.Who.TheVariants as who
-use Rattle.uvm_object.specs.Objects.{same_who}
-use Rattle.uvm_acts.specs.Acts.{node_of}
-use Rattle.uvm_acts.specs.declared.acts.Act.{Act}
-use Rattle.uvm_object.specs.declared.fatals.Fatal.TheVariants.{TooManyActs}
-use Rattle.uvm_object.specs.declared.entries.Outcome.{Outcome}
-use Rattle.uvm_object.specs.declared.entries.Outcome.TheVariants.{Started}
-use Rattle.uvm_object.specs.declared.entries.Reason.{Reason}
-use Rattle.uvm_object.specs.declared.entries.Passage.{Passage}
-use Rattle.uvm_object.specs.declared.entries.Entry.{Entry}
-use Rattle.uvm_object.specs.declared.entries.Entry.TheVariants.{Begin, End, Did, Note, Over}
-use Rattle.bench_script.specs.Scripts.{ScriptValue}
-use Rattle.bench_history.specs.declared.stages.Stage.{Stage}
-use Rattle.bench_history.specs.declared.stages.Stage.TheVariants.{Before, During, After, Ended}
-use Rattle.bench_history.specs.Limits.{most_acts}
-use Rattle.bench_history.specs.History.{stage_of, running, nodes_of, left_of, speaker_of, ended_of, act_phase, in_progress}
-use Rattle.bench_history.specs.Reports.{reason_of}
-use Rattle.bench_history.specs.Sequences.{Beginning, begun_after, begun_of, finished_of, is_live}
-use Rattle.bench_history.specs.Passing.{next_passed}
-use Rattle.bench_history.specs.Arbitration.{next_locked, next_served}
-use Rattle.bench_history.specs.Upshots.{Upshot, Needs, ComesTo, upshot_of}
-use Rattle.bench_history.specs.Cases.{Next, Exactly, end_reached, giving_up, locking, serving, passing, long_answer, first_act, by_upshot, phase_to_begin}
-use Rattle.bench_history.specs.Next.{first_next, next_of, IsNext}
-use Rattle.bench_history.specs.Laws.{IsLiving, PhasesBeginBehind}
-use Rattle.bench_history.proofs.Inversion.{IsOwn, Case, AtEnd, ByOwn, ByNeed, ByDeed, ByDue, ByTurn, ByEnd, ByBegin, ByGrant, case-of}
-use Rattle.bench_history.proofs.Phased.{begin-alone, end-alone, end-case}
+use Rattle.bench_history.proofs.Inversion.{comes, exactly, now-at}
 
 -- one that has a number has it still when there is one more
 pub numbered-within : {X : Type 0} (xs : List X) (n : ℕ) (x : X) → numbered xs n ≡ Some x → n ≤ length xs
@@ -66,21 +33,21 @@ numbered-holds P (y ∷ older) n x all e = tested (n == length (y ∷ older)) e 
     tested true found rest = let is : y ≡ x = cc in subst P is (All-head P y older all)
     tested false found rest = rest found
 
-begun-after-more : (nodes : List Node) (phase : Option Phase) (begun : List Beginning) (performer : Who) (outcome : Outcome) (act : Act) (id : ℕ) (beginning : Beginning) → numbered begun id ≡ Some beginning → numbered (begun_after nodes phase begun performer outcome act) id ≡ Some beginning
-begun-after-more nodes phase begun performer (Started new) act id beginning e = numbered-more _ begun id beginning e
-begun-after-more nodes phase begun performer outcome act id beginning e = e
+begun-after-more : (nodes : List Node) (phase : Option Phase) (begun : List StartRecord) (performer : Who) (outcome : Outcome) (act : Act) (id : ℕ) (start_record : StartRecord) → numbered begun id ≡ Some start_record → numbered (begun_after nodes phase begun performer outcome act) id ≡ Some start_record
+begun-after-more nodes phase begun performer (Started new) act id start_record e = numbered-more _ begun id start_record e
+begun-after-more nodes phase begun performer outcome act id start_record e = e
 
 -- a sequence that was started stays so
-pub begun-more : (entry : Entry) (before : List Entry) (id : ℕ) (beginning : Beginning) → numbered (begun_of before) id ≡ Some beginning → numbered (begun_of (entry ∷ before)) id ≡ Some beginning
-begun-more (Did performer outcome act) before id beginning e = begun-after-more (nodes_of before) (act_phase before) (begun_of before) performer outcome act id beginning e
-begun-more entry before id beginning e = e
+pub begun-more : (entry : Entry) (before : List Entry) (id : ℕ) (start_record : StartRecord) → numbered (starts_of before) id ≡ Some start_record → numbered (starts_of (entry ∷ before)) id ≡ Some start_record
+begun-more (Did performer outcome act) before id start_record e = begun-after-more (nodes_of before) (act_phase before) (starts_of before) performer outcome act id start_record e
+begun-more entry before id start_record e = e
 
-begun-after-count : (nodes : List Node) (phase : Option Phase) (begun : List Beginning) (performer : Who) (outcome : Outcome) (act : Act) → length begun ≤ length (begun_after nodes phase begun performer outcome act)
+begun-after-count : (nodes : List Node) (phase : Option Phase) (begun : List StartRecord) (performer : Who) (outcome : Outcome) (act : Act) → length begun ≤ length (begun_after nodes phase begun performer outcome act)
 begun-after-count nodes phase begun performer (Started new) act = omega arith
 begun-after-count nodes phase begun performer outcome act = omega arith
 
-pub begun-count : (entry : Entry) (before : List Entry) → length (begun_of before) ≤ length (begun_of (entry ∷ before))
-begun-count (Did performer outcome act) before = begun-after-count (nodes_of before) (act_phase before) (begun_of before) performer outcome act
+pub begun-count : (entry : Entry) (before : List Entry) → length (starts_of before) ≤ length (starts_of (entry ∷ before))
+begun-count (Did performer outcome act) before = begun-after-count (nodes_of before) (act_phase before) (starts_of before) performer outcome act
 begun-count entry before = omega arith
 
 -- the acts are performed before a phase begins or ends
@@ -93,7 +60,7 @@ abbrev IsMarkNext : Next → Type 0
 IsMarkNext (Exactly entry) = IsMark entry
 IsMarkNext next = ⊥
 
-no-mark : (performer : Who) (act : Act) (upshot : Upshot) → IsMarkNext (by_upshot performer act upshot) → ⊥
+no-mark : (performer : Who) (act : Act) (effect : Effect) → IsMarkNext (by_effect performer act effect) → ⊥
 no-mark performer act (Needs need made) is = is
 no-mark performer act (ComesTo outcome) is = is
 
@@ -102,9 +69,9 @@ none-among : (script : ScriptValue) (history : List Entry) (left : List Act) (ot
 none-among script history [] others is = refl
 none-among script history (act ∷ acts) others is = tested (nat_lt most_acts (length (act ∷ acts))) is
   where
-    tested : (many : Bool) → IsMarkNext (first_next ((if many then Some (Exactly (Note TooManyActs (node_of (speaker_of history)))) else None) ∷ first_act script history (act ∷ acts) ∷ others)) → act ∷ acts ≡ []
+    tested : (many : Bool) → IsMarkNext (first_next ((if many then Some (Exactly (Note TooManyActs (node_of (performer_of history)))) else None) ∷ first_act script history (act ∷ acts) ∷ others)) → act ∷ acts ≡ []
     tested true is = absurd is
-    tested false is = absurd (no-mark (speaker_of history) act (upshot_of script history (speaker_of history) act) is)
+    tested false is = absurd (no-mark (performer_of history) act (effect_of script history (performer_of history) act) is)
 
 none-passed :
     (script : ScriptValue) (history : List Entry) (passed : Option (ℕ × Passage)) (left : List Act) (others : List (Option Next))
@@ -126,41 +93,29 @@ none-given script history (Some why) left others is = absurd is
 none-given script history None left others is = none-served script history (next_locked history) (next_served history) left others is
 
 none-left :
-    (script : ScriptValue) (history : List Entry) (stage : Stage) (why : Option Reason) (left : List Act) (others : List (Option Next))
+    (script : ScriptValue) (history : List Entry) (stage : RunStage) (why : Option Reason) (left : List Act) (others : List (Option Next))
     → IsMarkNext (first_next (end_reached stage ∷ giving_up why ∷ locking (next_locked history) ∷ serving history (next_served history) ∷ passing (next_passed history) ∷ long_answer history left ∷ first_act script history left ∷ others)) → left ≡ []
 none-left script history Ended why left others is = absurd is
 none-left script history Before why left others is = none-given script history why left others is
 none-left script history (During phase) why left others is = none-given script history why left others is
 none-left script history (After phase) why left others is = none-given script history why left others is
 
-mark-left : (script : ScriptValue) (history : List Entry) → IsMarkNext (next_of script history) → left_of script history ≡ []
+mark-left : (script : ScriptValue) (history : List Entry) → IsMarkNext (next_of script history) → remaining_acts script history ≡ []
 unfolding next_of
-mark-left script history is = none-left script history (stage_of history) (reason_of script history) (left_of script history) _ is
+mark-left script history is = none-left script history (stage_of history) (reason_of script history) (remaining_acts script history) _ is
 
-pub begin-left : (script : ScriptValue) (history : List Entry) (phase : Phase) → IsNext script history (Begin phase) → left_of script history ≡ []
-begin-left script history phase next = mark-left script history (subst IsMarkNext (sym (begin-alone phase (next_of script history) next)) tt)
+pub begin-left : (script : ScriptValue) (history : List Entry) (phase : Phase) → IsNext script history (Begin phase) → remaining_acts script history ≡ []
+begin-left script history phase next = mark-left script history (subst IsMarkNext (sym (exactly (Begin phase) (next_of script history) tt next)) tt)
 
-pub end-left : (script : ScriptValue) (history : List Entry) (phase : Phase) → IsNext script history (End phase) → left_of script history ≡ []
-end-left script history phase next = mark-left script history (subst IsMarkNext (sym (end-alone phase (next_of script history) next)) tt)
-
--- a phase begins that may begin next
-begins-case : (script : ScriptValue) (history : List Entry) (phase : Phase) (next : Next) → next ≡ Exactly (Begin phase) → Case script history next → phase_to_begin script.runtime (stage_of history) ≡ Some phase
-begins-case script history phase next is (AtEnd over e) = cc
-begins-case script history phase next is (ByOwn entry own e) = let same : entry ≡ Begin phase = cc in absurd (subst (IsOwn script history) same own)
-begins-case script history phase next is (ByNeed act need made left upshot e) = cc
-begins-case script history phase next is (ByDeed act outcome left plain comes e) = cc
-begins-case script history phase next is (ByDue event call now is_call e) = cc
-begins-case script history phase next is (ByTurn running node during turn e) = cc
-begins-case script history phase next is (ByEnd running runs e) = cc
-begins-case script history phase next is (ByBegin begins may e) = let same : begins ≡ phase = cc in subst (λ (p : Phase). phase_to_begin script.runtime (stage_of history) ≡ Some p) same may
-begins-case script history phase next is (ByGrant sequencer drawn served e) = cc
+pub end-left : (script : ScriptValue) (history : List Entry) (phase : Phase) → IsNext script history (End phase) → remaining_acts script history ≡ []
+end-left script history phase next = mark-left script history (subst IsMarkNext (sym (exactly (End phase) (next_of script history) tt next)) tt)
 
 add-last : (a b : Bool) → a || false ≡ true → a || (b || false) ≡ true
 add-last true b e = refl
 add-last false b e = cc
 
 -- those in progress stay so where one begins
-begin-keeps : (runtime : Bool) (stage : Stage) (other phase : Phase) → phase_to_begin runtime stage ≡ Some other → list_any (same_phase phase) (in_progress stage) ≡ true → list_any (same_phase phase) (in_progress (During other)) ≡ true
+begin-keeps : (runtime : Bool) (stage : RunStage) (other phase : Phase) → phase_to_begin runtime stage ≡ Some other → list_any (same_phase phase) (in_progress stage) ≡ true → list_any (same_phase phase) (in_progress (During other)) ≡ true
 begin-keeps runtime Before other phase b r = cc
 begin-keeps true (During Run) other phase b r = let same : PreReset ≡ other = cc in rw (← same) (add-last (same_phase phase Run) (same_phase phase PreReset) r)
 begin-keeps false (During Run) other phase b r = cc
@@ -180,7 +135,7 @@ begin-keeps runtime (After last) other phase b r = cc
 begin-keeps runtime Ended other phase b r = cc
 
 -- one that begins goes beside those in progress, behind them
-begins-behind : (runtime : Bool) (stage : Stage) (phase : Phase) → phase_to_begin runtime stage ≡ Some phase → in_progress (During phase) ≡ in_progress stage ++ phase ∷ []
+begins-behind : (runtime : Bool) (stage : RunStage) (phase : Phase) → phase_to_begin runtime stage ≡ Some phase → in_progress (During phase) ≡ in_progress stage ++ phase ∷ []
 begins-behind runtime Before phase b = let same : Build ≡ phase = cc in rw (← same) refl
 begins-behind true (During Run) phase b = let same : PreReset ≡ phase = cc in rw (← same) refl
 begins-behind false (During Run) phase b = cc
@@ -209,7 +164,7 @@ begins-behind runtime (After PostShutdown) phase b = cc
 begins-behind runtime Ended phase b = cc
 
 pub phases_begin_behind : PhasesBeginBehind
-phases_begin_behind script history phase is = begins-behind script.runtime (stage_of history) phase (begins-case script history phase (next_of script history) is (case-of script history))
+phases_begin_behind script history phase is = begins-behind script.runtime (stage_of history) phase (now-at script history (Exactly (Begin phase)) is)
 
 -- and where one ends, but for that one
 split-last : (a b : Bool) → a || (b || false) ≡ true → (a || false ≡ true) ⊎ (b ≡ true)
@@ -229,7 +184,7 @@ one-ends : (b : Bool) (other phase : Phase) → (if b then Some Run else None) �
 one-ends true other phase runs e = let same : Run ≡ other = cc in rw (← same) (split-one (same_phase phase Run) e)
 one-ends false other phase runs e = cc
 
-end-keeps : (stage : Stage) (other phase : Phase) → running stage ≡ Some other → list_any (same_phase phase) (in_progress stage) ≡ true → (list_any (same_phase phase) (in_progress (After other)) ≡ true) ⊎ (same_phase phase other ≡ true)
+end-keeps : (stage : RunStage) (other phase : Phase) → running stage ≡ Some other → list_any (same_phase phase) (in_progress stage) ≡ true → (list_any (same_phase phase) (in_progress (After other)) ≡ true) ⊎ (same_phase phase other ≡ true)
 end-keeps Before other phase runs e = cc
 end-keeps (During last) other phase runs e = let same : last ≡ other = cc in subst (λ (p : Phase). (list_any (same_phase phase) (in_progress (After p)) ≡ true) ⊎ (same_phase phase p ≡ true)) same (two-end (is_runtime last) last phase e)
 end-keeps (After last) other phase runs e = inr (one-ends (is_runtime last) other phase runs e)
@@ -243,17 +198,13 @@ pub data Stands (history : List Entry) (phase : Phase) : Type 0 where
   Runs : list_any (same_phase phase) (in_progress (stage_of history)) ≡ true → Stands history phase
   HasEnded : list_any (same_phase phase) (ended_of history) ≡ true → Stands history phase
 
-any-more : (b c : Bool) → c ≡ true → b || c ≡ true
-any-more true c e = refl
-any-more false c e = e
-
 -- so where one begins, those in progress go on
 pub begin-going : (script : ScriptValue) (before : List Entry) (other phase : Phase) → IsNext script before (Begin other) → list_any (same_phase phase) (in_progress (stage_of before)) ≡ true → list_any (same_phase phase) (in_progress (During other)) ≡ true
-begin-going script before other phase next goes = begin-keeps script.runtime (stage_of before) other phase (begins-case script before other (next_of script before) (begin-alone other (next_of script before) next) (case-of script before)) goes
+begin-going script before other phase next goes = begin-keeps script.runtime (stage_of before) other phase (comes script before (Begin other) next) goes
 
 -- and where one ends, all but that one
 pub end-going : (script : ScriptValue) (before : List Entry) (other phase : Phase) → IsNext script before (End other) → list_any (same_phase phase) (in_progress (stage_of before)) ≡ true → (list_any (same_phase phase) (in_progress (After other)) ≡ true) ⊎ (same_phase phase other ≡ true)
-end-going script before other phase next goes = end-keeps (stage_of before) other phase (end-case script before other (next_of script before) (end-alone other (next_of script before) next) (case-of script before)).0 goes
+end-going script before other phase next goes = end-keeps (stage_of before) other phase (comes script before (End other) next).runs goes
 
 stands-begun : (script : ScriptValue) (before : List Entry) (other phase : Phase) → IsNext script before (Begin other) → Stands before phase → Stands (Begin other ∷ before) phase
 stands-begun script before other phase next (Runs runs) = Runs (begin-going script before other phase next runs)
@@ -266,10 +217,10 @@ stands-ended script before other phase next (Runs runs) =
     by : (list_any (same_phase phase) (in_progress (After other)) ≡ true) ⊎ (same_phase phase other ≡ true) → Stands (End other ∷ before) phase
     by (inl on) = Runs on
     by (inr same) = HasEnded (rw same refl)
-stands-ended script before other phase next (HasEnded ended) = HasEnded (any-more (same_phase phase other) _ ended)
+stands-ended script before other phase next (HasEnded ended) = HasEnded (or_right (same_phase phase other) _ ended)
 
 stays : (entry : Entry) (before : List Entry) (phase : Phase) → stage_of (entry ∷ before) ≡ stage_of before → ended_of (entry ∷ before) ≡ ended_of before → Stands before phase → Stands (entry ∷ before) phase
-stays entry before phase same ended (Runs runs) = Runs (ap (λ (stage : Stage). list_any (same_phase phase) (in_progress stage)) same ∙ runs)
+stays entry before phase same ended (Runs runs) = Runs (ap (λ (stage : RunStage). list_any (same_phase phase) (in_progress stage)) same ∙ runs)
 stays entry before phase same ended (HasEnded has) = HasEnded (ap (list_any (same_phase phase)) ended ∙ has)
 
 -- this stays, whatever comes next but the end of the run
@@ -281,16 +232,16 @@ stands-more script before entry phase next on stands = stays entry before phase 
 
 -- a sequence was started on a sequencer, in a phase that runs or has ended
 pub record IsSequence (history : List Entry) (phase : Phase) (id home : ℕ) : Type 0 where
-  pub beginning : Beginning
-  pub begun : numbered (begun_of history) id ≡ Some beginning
-  pub home_is : beginning.start.home ≡ home
-  pub phase_is : beginning.phase ≡ Some phase
+  pub start_record : StartRecord
+  pub begun : numbered (starts_of history) id ≡ Some start_record
+  pub home_is : start_record.start.home ≡ home
+  pub phase_is : start_record.phase ≡ Some phase
   pub stands : Stands history phase
 
 pub sequence-more : (script : ScriptValue) (before : List Entry) (entry : Entry) (phase : Phase) (id home : ℕ) → IsNext script before entry → (stage_of (entry ∷ before) ≡ Ended → ⊥) → IsSequence before phase id home → IsSequence (entry ∷ before) phase id home
 sequence-more script before entry phase id home next on s = record {
-  beginning = s.beginning;
-  begun = begun-more entry before id s.beginning s.begun;
+  start_record = s.start_record;
+  begun = begun-more entry before id s.start_record s.begun;
   home_is = s.home_is;
   phase_is = s.phase_is;
   stands = stands-more script before entry phase next on s.stands;
@@ -301,7 +252,7 @@ pub living-of : (history : List Entry) (phase : Phase) (id home : ℕ) → IsSeq
 unfolding is_live
 living-of history phase id home s unfinished unended = record {
   lives = rw (s.begun, s.home_is, s.phase_is, unfinished, unended) refl;
-  home_is = ap (option_map (λ (beginning : Beginning). beginning.start.home)) s.begun ∙ ap (λ (h : ℕ). Some h) s.home_is;
+  home_is = ap (option_map (λ (start_record : StartRecord). start_record.start.home)) s.begun ∙ ap (λ (h : ℕ). Some h) s.home_is;
 }
 
 -- a phase that runs or has ended runs, if it has not ended

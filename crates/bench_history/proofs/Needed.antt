@@ -1,32 +1,8 @@
 -- Where an object is what comes next.
-use Rattle.std.proofs.Common.{◌≡◌, ℕ, suc, Bool, true, false, not, List, [], ◌∷◌, Option, Some, None, IsSome, is_none, length, refl, ap, ◌∙◌, sym, subst}
-use Rattle.uvm_sequencer.specs.declared.drivers.How.TheVariants.{Try}
-use Rattle.uvm_sequencer.specs.declared.drivers.How.{How}
-use Rattle.uvm_glob.specs.Lists.{first_given}
-use Rattle.uvm_glob.specs.Faults.{fault_if}
-use Rattle.uvm_tree.specs.declared.faults.TreeFault.{TreeFault}
-use Rattle.uvm_tree.specs.declared.faults.TreeFault.TheVariants.{NoParent}
-use Rattle.uvm_tree.specs.Nodes.{Node, node_at, add_fault}
-use Rattle.uvm_acts.specs.Acts.{node_of}
-use Rattle.uvm_acts.specs.declared.acts.Who.{Who}
-use Rattle.uvm_acts.specs.declared.acts.Act.{Act}
-use Rattle.uvm_acts.specs.declared.acts.Act.TheVariants.{Create, Start, EndStep, Ask}
-use Rattle.uvm_object.specs.declared.fatals.Fatal.{Fatal}
-use Rattle.uvm_object.specs.declared.fatals.Fatal.TheVariants.{CreatedAfterBuild, InvalidType, OverrideLoop, NotOpen}
-use Rattle.uvm_object.specs.declared.entries.Outcome.{Outcome}
-use Rattle.uvm_object.specs.declared.entries.Outcome.TheVariants.{Made, Started}
-use Rattle.uvm_object.specs.declared.entries.Entry.{Entry}
-use Rattle.bench_script.specs.Scripts.{ScriptValue}
+use Rattle.bench_history.proofs.Common.{◌∙◌, ◌≡◌, ℕ, suc, Bool, true, false, not, List, [], ◌∷◌, Option, Some, None, IsSome, is_none, length, inl, inr, refl, ap, sym, subst, Try, How, first_given, fault_if, TreeFault, NoParent, node_at, add_fault, node_of, Who, Act, Create, EndStep, Ask, Fatal, CreatedAfterBuild, InvalidType, OverrideLoop, NotOpen, NoObject, Outcome, Made, Started, Refused, Entry, Did, ScriptValue, nodes_of, remaining_acts, rest_of, performer_of, Creation, Starting, type_asked, type_made, child_refusal, fatal_of, creation_refusal, starting_refusal, is_open_to, sequences_of, Effect, Needs, ComesTo, unless_refused, needed_object, needed_sequence, creation_now, creation_effect, starting_now, starting_effect, permitted_effect, effect_of, asked_effect, Next, Need, by_effect, next_of, need_in, Allows, IsAct, IsNext, IsMadeBy, IsWanted, NeedsAreWanted, IsNow, NotMade, Node, Start}
 use Rattle.bench_history.specs.declared.needs.Need as declared
-use Rattle.bench_history.specs.History.{nodes_of, left_of, rest_of, speaker_of}
-use Rattle.bench_history.specs.Refusals.{Creation, Starting, type_asked, type_made, child_refusal, fatal_of, creation_refusal, starting_refusal, is_open_to}
-use Rattle.bench_history.specs.Sequences.{sequences_of}
-use Rattle.bench_history.specs.Upshots.{Upshot, Needs, unless_refused, needed_object, needed_sequence, creation_now, creation_upshot, starting_now, starting_upshot, open_upshot, upshot_of, asked_upshot}
-use Rattle.bench_history.specs.Cases.{Next, Need}
-use Rattle.bench_history.specs.Next.{next_of, need_in, IsAct}
-use Rattle.bench_history.specs.Laws.{IsMadeBy, IsWanted, NeedsAreWanted}
 use Rattle.bench_history.proofs.Performed.{settled-of}
-use Rattle.bench_history.proofs.Inversion.{Case, AtEnd, ByOwn, ByNeed, ByDeed, ByDue, ByTurn, ByEnd, ByBegin, ByGrant, case-of}
+use Rattle.bench_history.proofs.Inversion.{IsPlainEffect, comes, now-at, plain-effect}
 
 -- a name can be free only under a node that is there
 some-node : (nodes : List Node) (parent : ℕ) (name : List ℕ) → child_refusal nodes parent name ≡ None → IsSome (node_at nodes parent)
@@ -65,12 +41,12 @@ free-of creation e = third-not (fault_if creation.built CreatedAfterBuild) (faul
 
 -- an act that creates the object that is needed
 creating-of :
-    (script : ScriptValue) (history : List Entry) (asked name : List ℕ) (need : declared.Need) (made : Outcome) → creation_upshot (creation_now script history (speaker_of history) asked name) ≡ Needs need made
+    (script : ScriptValue) (history : List Entry) (asked name : List ℕ) (need : declared.Need) (made : Outcome) → creation_effect (creation_now script history (performer_of history) asked name) ≡ Needs need made
     → IsMadeBy script history need made (Create asked name)
 creating-of script history asked name need made e = by (creation_refusal creation) refl e
   where
     creation : Creation
-    creation = creation_now script history (speaker_of history) asked name
+    creation = creation_now script history (performer_of history) asked name
 
     by : (refusal : Option Fatal) → creation_refusal creation ≡ refusal → unless_refused refusal (Needs (needed_object creation) (Made (needed_object creation).type_name)) ≡ Needs need made → IsMadeBy script history need made (Create asked name)
     by None is e =
@@ -83,7 +59,7 @@ creating-of script history asked name need made e = by (creation_refusal creatio
           type_is = ap (λ (n : declared.Need). n.type_name) same;
           path_is = ap (λ (n : declared.Need). n.path) (sym same);
           free = free;
-          speaker = some-node (nodes_of history) (node_of (speaker_of history)) name free;
+          performer = some-node (nodes_of history) (node_of (performer_of history)) name free;
           building = building-of creation is;
         })
     by (Some fatal) is e = cc
@@ -91,12 +67,12 @@ creating-of script history asked name need made e = by (creation_refusal creatio
 -- and one that starts a sequence
 starting-of :
     (script : ScriptValue) (history : List Entry) (asked name : List ℕ) (on : List (List ℕ)) (priority : Option ℕ) (need : declared.Need) (made : Outcome)
-    → starting_upshot (length (sequences_of history)) (starting_now script history (speaker_of history) asked name on priority) ≡ Needs need made
+    → starting_effect (length (sequences_of history)) (starting_now script history (performer_of history) asked name on priority) ≡ Needs need made
     → IsMadeBy script history need made (Start asked name on priority)
 starting-of script history asked name on priority need made e = by (starting_refusal starting) refl e
   where
     starting : Starting
-    starting = starting_now script history (speaker_of history) asked name on priority
+    starting = starting_now script history (performer_of history) asked name on priority
 
     by : (refusal : Option Fatal) → starting_refusal starting ≡ refusal → unless_refused refusal (Needs (needed_sequence starting) (Started (suc (length (sequences_of history))))) ≡ Needs need made
         → IsMadeBy script history need made (Start asked name on priority)
@@ -107,74 +83,80 @@ starting-of script history asked name on priority need made e = by (starting_ref
     by (Some fatal) is e = cc
 
 -- no object is needed by what comes to something else
-abbrev IsAtOnce : Upshot → Type 0
+abbrev IsAtOnce : Effect → Type 0
 IsAtOnce (Needs need made) = ⊥
-IsAtOnce upshot = Unit {0}
+IsAtOnce effect = Unit {0}
 
-at-once-unless : (refusal : Option Fatal) (upshot : Upshot) → IsAtOnce upshot → IsAtOnce (unless_refused refusal upshot)
-at-once-unless None upshot at_once = at_once
-at-once-unless (Some fatal) upshot at_once = tt
+at-once-unless : (refusal : Option Fatal) (effect : Effect) → IsAtOnce effect → IsAtOnce (unless_refused refusal effect)
+at-once-unless None effect at_once = at_once
+at-once-unless (Some fatal) effect at_once = tt
 
-at-once-asked : (how : How) (waits : Bool) → IsAtOnce (asked_upshot how waits)
+at-once-asked : (how : How) (waits : Bool) → IsAtOnce (asked_effect how waits)
 at-once-asked Try waits = tt
 at-once-asked how waits = tt
 
 -- an act is not refused where an object is needed for it
-open-of : (refusal : Option Fatal) (upshot : Upshot) (need : declared.Need) (made : Outcome) → unless_refused refusal upshot ≡ Needs need made → upshot ≡ Needs need made
-open-of None upshot need made e = e
-open-of (Some fatal) upshot need made e = cc
+open-of : (refusal : Option Fatal) (effect : Effect) (need : declared.Need) (made : Outcome) → unless_refused refusal effect ≡ Needs need made → effect ≡ Needs need made
+open-of None effect need made e = e
+open-of (Some fatal) effect need made e = cc
 
 -- so the act makes it
-making-of : (script : ScriptValue) (history : List Entry) (act : Act) (need : declared.Need) (made : Outcome) → open_upshot script history (speaker_of history) act ≡ Needs need made → IsMadeBy script history need made act
+making-of : (script : ScriptValue) (history : List Entry) (act : Act) (need : declared.Need) (made : Outcome) → permitted_effect script history (performer_of history) act ≡ Needs need made → IsMadeBy script history need made act
 making-of script history (Create asked name) need made e = creating-of script history asked name need made e
 making-of script history (Start asked name on priority) need made e = starting-of script history asked name on priority need made e
 making-of script history EndStep need made e = cc
 making-of script history (Ask port how) need made e = absurd (subst IsAtOnce e (at-once-unless _ _ (at-once-asked how _)))
 making-of script history act need made e = absurd (subst IsAtOnce e (search at-once-unless))
 
-wanted-by : (script : ScriptValue) (history : List Entry) (act : Act) (need : declared.Need) (made : Outcome) → upshot_of script history (speaker_of history) act ≡ Needs need made → next_of script history ≡ Need need made (speaker_of history) act → IsWanted script history act
-wanted-by script history act need made upshot next = record {
+makes-by : (script : ScriptValue) (history : List Entry) (act : Act) (need : declared.Need) (made : Outcome) → effect_of script history (performer_of history) act ≡ Needs need made → IsMadeBy script history need made act
+makes-by script history act need made effect = making-of script history act need made (open-of (fault_if (not (is_open_to act (performer_of history))) NotOpen) (permitted_effect script history (performer_of history) act) need made effect)
+
+sequencer_request-by : (script : ScriptValue) (history : List Entry) (act : Act) (need : declared.Need) (made : Outcome) → effect_of script history (performer_of history) act ≡ Needs need made → next_of script history ≡ Need need made (performer_of history) act → IsWanted script history act
+sequencer_request-by script history act need made effect next = record {
   need = need;
   made = made;
   next = next;
   settled = settled-of script history (subst IsAct (sym next) tt);
-  makes = making-of script history act need made (open-of (fault_if (not (is_open_to act (speaker_of history))) NotOpen) (open_upshot script history (speaker_of history) act) need made upshot);
+  makes = makes-by script history act need made effect;
 }
 
--- no object is needed elsewhere
-not-needed : {A : Type 0} (other next : Next) → next ≡ other → need_in other ≡ None → IsSome (need_in next) → A
-not-needed other next e none need = let some : IsSome (need_in other) = subst (λ (n : Next). IsSome (need_in n)) e need in cc
-
-need-case :
-    (script : ScriptValue) (history : List Entry) (next : Next) → next_of script history ≡ next → IsSome (need_in next) → Case script history next
-    → (act : Act) × (left_of script history ≡ act ∷ rest_of (left_of script history)) × IsWanted script history act
-need-case script history next is need (AtEnd ended e) = not-needed _ next e refl need
-need-case script history next is need (ByOwn entry own e) = not-needed _ next e refl need
-need-case script history next is need (ByNeed act wants made left upshot e) = (act, left, wanted-by script history act wants made upshot (is ∙ e))
-need-case script history next is need (ByDeed act outcome left plain comes e) = not-needed _ next e refl need
-need-case script history next is need (ByDue event call now is_call e) = not-needed _ next e refl need
-need-case script history next is need (ByTurn phase node during turn e) = not-needed _ next e refl need
-need-case script history next is need (ByEnd phase runs e) = not-needed _ next e refl need
-need-case script history next is need (ByBegin phase may e) = not-needed _ next e refl need
-need-case script history next is need (ByGrant sequencer drawn served e) = not-needed _ next e refl need
+sequencer_request :
+    (script : ScriptValue) (history : List Entry) (next : Next) → next_of script history ≡ next → IsSome (need_in next) → IsNow script history next
+    → (act : Act) × (remaining_acts script history ≡ act ∷ rest_of (remaining_acts script history)) × IsWanted script history act
+sequencer_request script history (Need need made performer act) is some now =
+    (act, now.left, sequencer_request-by script history act need made now.effect (subst (λ (who : Who). next_of script history ≡ Need need made who act) now.performer_is is))
+sequencer_request script history next is some now = cc
 
 pub needs_are_wanted : NeedsAreWanted
-needs_are_wanted script history need = need-case script history (next_of script history) refl need (case-of script history)
+needs_are_wanted script history need = sequencer_request script history (next_of script history) refl need (now-at script history (next_of script history) refl)
 
--- the act that needs an object is the speaker's next
+-- the act that needs an object is the performer's next
 pub record IsNeeded (script : ScriptValue) (history : List Entry) (need : declared.Need) (made : Outcome) (performer : Who) (act : Act) : Type 0 where
-  pub performer_is : performer ≡ speaker_of history
-  pub left : left_of script history ≡ act ∷ rest_of (left_of script history)
+  pub performer_is : performer ≡ performer_of history
+  pub left : remaining_acts script history ≡ act ∷ rest_of (remaining_acts script history)
   pub makes : IsMadeBy script history need made act
 
 pub needed : (script : ScriptValue) (history : List Entry) (need : declared.Need) (made : Outcome) (performer : Who) (act : Act) → next_of script history ≡ Need need made performer act → IsNeeded script history need made performer act
 needed script history need made performer act is =
-    let some : IsSome (need_in (next_of script history)) = rw is refl in
-    let n = needs_are_wanted script history some in
-    let w = n.2 in
-    let same : Need w.need w.made (speaker_of history) n.0 ≡ Need need made performer act = sym w.next ∙ is in
-    let act_is : n.0 ≡ act = cc in
-    let need_is : w.need ≡ need = cc in
-    let made_is : w.made ≡ made = cc in
-    let performer_is : speaker_of history ≡ performer = cc in
-    record { performer_is = sym performer_is; left = rw (← act_is) n.1; makes = rw (← need_is, ← made_is, ← act_is) w.makes }
+    let now = now-at script history (Need need made performer act) is in
+    record { performer_is = now.performer_is; left = now.left; makes = makes-by script history act need made now.effect }
+
+-- an act that made something needed it
+pub made-in : (script : ScriptValue) (history : List Entry) (performer : Who) (outcome : Outcome) (act : Act) → (NotMade outcome → ⊥) → IsNext script history (Did performer outcome act) → (need : declared.Need) × IsMadeBy script history need outcome act
+made-in script history performer outcome act made next = by (effect_of script history (performer_of history) act) refl (comes script history (Did performer outcome act) next).comes
+  where
+    by : (effect : Effect) → effect_of script history (performer_of history) act ≡ effect → Allows (by_effect (performer_of history) act effect) (Did performer outcome act) → (need : declared.Need) × IsMadeBy script history need outcome act
+    by (Needs need other) is (inl e) = let same : other ≡ outcome = cc in (need, subst (λ (m : Outcome). IsMadeBy script history need m act) same (makes-by script history act need other is))
+    by (Needs need other) is (inr e) = let same : Refused NoObject ≡ outcome = cc in absurd (made (subst NotMade same tt))
+    by (ComesTo other) is e = let same : other ≡ outcome = cc in absurd (made (subst NotMade same (subst IsPlainEffect is (plain-effect script history (performer_of history) act))))
+
+-- and what is no such outcome, and no refusal for want of an object, the act came to at once
+pub comes-to :
+    (script : ScriptValue) (history : List Entry) (performer : Who) (outcome : Outcome) (act : Act) → (outcome ≡ Refused NoObject → ⊥) → ((need : declared.Need) → IsMadeBy script history need outcome act → ⊥) → IsNext script history (Did performer outcome act)
+    → effect_of script history (performer_of history) act ≡ ComesTo outcome
+comes-to script history performer outcome act done unmade next = by (effect_of script history (performer_of history) act) refl (comes script history (Did performer outcome act) next).comes
+  where
+    by : (effect : Effect) → effect_of script history (performer_of history) act ≡ effect → Allows (by_effect (performer_of history) act effect) (Did performer outcome act) → effect_of script history (performer_of history) act ≡ ComesTo outcome
+    by (Needs need made) is (inl e) = let same : made ≡ outcome = cc in absurd (unmade need (subst (λ (m : Outcome). IsMadeBy script history need m act) same (makes-by script history act need made is)))
+    by (Needs need made) is (inr e) = let same : outcome ≡ Refused NoObject = cc in absurd (done same)
+    by (ComesTo other) is e = let same : other ≡ outcome = cc in is ∙ ap ComesTo same

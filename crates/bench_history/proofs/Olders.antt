@@ -1,9 +1,5 @@
 -- The older parts of a legal log.
-use Rattle.std.proofs.Common.{◌≤◌, List, [], ◌∷◌, ◌++◌, length, arith, length-append}
-use Rattle.uvm_object.specs.declared.entries.Entry.{Entry}
-use Rattle.bench_script.specs.Scripts.{ScriptValue}
-use Rattle.bench_history.specs.Next.{EachIsNext}
-use Rattle.bench_history.specs.LegalLogs.{OlderLogsAreLegal}
+use Rattle.bench_history.proofs.Common.{◌≤◌, List, [], ◌∷◌, ◌++◌, length, arith, Entry, ScriptValue, EachIsNext, OlderLogsAreLegal, length-append}
 
 pub older-each : (script : ScriptValue) (later before : List Entry) → EachIsNext script (later ++ before) → EachIsNext script before
 older-each script [] before each = each

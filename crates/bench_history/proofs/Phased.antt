@@ -1,24 +1,9 @@
 -- The phases go in their order.
-use Rattle.std.proofs.Common.{◌≡◌, ◌||◌, ◌==◌, ◌⊎◌, ℕ, ◌+◌, ◌<◌, ◌≤◌, true, false, List, [], ◌∷◌, reverse, take, Some, inl, inr, refl, ap, ◌∙◌, subst, arith, Bool, None, filter}
-use Rattle.std.specs.List.{list_any}
-use Rattle.std.proofs.lemmas.Bool.Decides.{nat_tests}
-use Rattle.std.proofs.lemmas.List.Elements.{All-nil, All-cons, All-weaker}
-use Rattle.uvm_phase.specs.declared.phases.Phase.{Phase}
-use Rattle.uvm_phase.specs.declared.phases.Phase.TheVariants.{Build, Connect, EndOfElaboration, StartOfSimulation, Run, Extract, Check, Report, Final, PreReset, Reset, PostReset, PreConfigure, Configure, PostConfigure, PreMain, Main, PostMain, PreShutdown, Shutdown, PostShutdown}
-use Rattle.uvm_phase.specs.Phases.{phase_number, same_phase}
-use Rattle.uvm_object.specs.declared.entries.Entry.{Entry}
-use Rattle.uvm_object.specs.declared.entries.Entry.TheVariants.{Begin, End, Over, Granted}
-use Rattle.bench_script.specs.Scripts.{ScriptValue}
-use Rattle.bench_history.specs.declared.stages.Stage.{Stage}
-use Rattle.bench_history.specs.declared.stages.Stage.TheVariants.{Before, During, After, Ended}
-use Rattle.bench_history.specs.History.{ended_of, in_progress, running, stage_of}
-use Rattle.bench_history.specs.Cases.{Next, Exactly, Answer, Need, Nothing, phase_to_begin, Grant}
-use Rattle.bench_history.specs.Next.{next_of, Allows, IsNext}
-use Rattle.bench_history.specs.Laws.{ArePhasesInOrder, PhasesGoInOrder, PhasesInProgressAreOpen, end_number, ending_order, is_run, is_run_at, next_number}
-use Rattle.bench_history.proofs.Inversion.{IsOwn, Case, AtEnd, ByOwn, ByNeed, ByDeed, ByDue, ByTurn, ByEnd, ByBegin, ByGrant, case-of}
+use Rattle.bench_history.proofs.Common.{◌≡◌, ◌||◌, ◌==◌, ◌⊎◌, ℕ, ◌+◌, ◌<◌, ◌≤◌, true, false, List, [], ◌∷◌, reverse, take, Some, inl, inr, refl, ap, ◌∙◌, arith, Bool, None, filter, list_any, nat_tests, All-nil, All-cons, All-weaker, Phase, Build, EndOfElaboration, StartOfSimulation, Run, Extract, Check, Report, Final, PreReset, Reset, PostReset, PreConfigure, Configure, PostConfigure, PreMain, Main, PostMain, PreShutdown, Shutdown, PostShutdown, phase_number, same_phase, Entry, Begin, End, Over, ScriptValue, RunStage, Before, During, After, Ended, ended_of, in_progress, running, stage_of, phase_to_begin, IsNext, ArePhasesInOrder, PhasesGoInOrder, PhasesInProgressAreOpen, end_number, ending_order, is_run, is_run_at, next_number, Connect}
+use Rattle.bench_history.proofs.Inversion.{comes}
 
 -- the phase that begins is the one that may begin next
-begin-number : (runtime : Bool) (stage : Stage) (phase : Phase) → is_run_at runtime stage ≡ true → phase_to_begin runtime stage ≡ Some phase → (next_number (During phase) ≡ next_number stage) × (is_run runtime phase ≡ true)
+begin-number : (runtime : Bool) (stage : RunStage) (phase : Phase) → is_run_at runtime stage ≡ true → phase_to_begin runtime stage ≡ Some phase → (next_number (During phase) ≡ next_number stage) × (is_run runtime phase ≡ true)
 begin-number runtime Before phase c e = let same : Build ≡ phase = cc in rw (← same) (refl, refl)
 begin-number true (During Run) phase c e = let same : PreReset ≡ phase = cc in rw (← same) (refl, refl)
 begin-number false (During Run) phase c e = cc
@@ -56,59 +41,19 @@ begin-number false (After Shutdown) phase c e = cc
 begin-number runtime (After last) phase c e = cc
 begin-number runtime Ended phase c e = cc
 
-begin-on : (runtime : Bool) (stage : Stage) (phase : Phase) → phase_to_begin runtime stage ≡ Some phase → stage ≡ Ended → ⊥
+begin-on : (runtime : Bool) (stage : RunStage) (phase : Phase) → phase_to_begin runtime stage ≡ Some phase → stage ≡ Ended → ⊥
 begin-on runtime Before phase may ended = cc
 begin-on runtime (During running) phase may ended = cc
 begin-on runtime (After last) phase may ended = cc
 begin-on runtime Ended phase may ended = cc
 
-begin-case : (script : ScriptValue) (history : List Entry) (phase : Phase) (next : Next) → next ≡ Exactly (Begin phase) → is_run_at script.runtime (stage_of history) ≡ true → Case script history next → ((next_number (During phase) ≡ next_number (stage_of history)) × (is_run script.runtime phase ≡ true)) × (stage_of history ≡ Ended → ⊥)
-begin-case script history phase next is c (AtEnd over e) = cc
-begin-case script history phase next is c (ByOwn entry own e) = let same : entry ≡ Begin phase = cc in absurd (subst (IsOwn script history) same own)
-begin-case script history phase next is c (ByNeed act need made left upshot e) = cc
-begin-case script history phase next is c (ByDeed act outcome left plain comes e) = cc
-begin-case script history phase next is c (ByDue event call now is_call e) = cc
-begin-case script history phase next is c (ByTurn running node turn its e) = cc
-begin-case script history phase next is c (ByEnd running runs e) = cc
-begin-case script history phase next is c (ByBegin begins may e) = let same : begins ≡ phase = cc in rw (← same) (begin-number script.runtime (stage_of history) begins c may, begin-on script.runtime (stage_of history) begins may)
-begin-case script history phase next is c (ByGrant sequencer drawn served e) = cc
-
--- a phase that ends is the one that was begun last
-pub end-case : (script : ScriptValue) (history : List Entry) (phase : Phase) (next : Next) → next ≡ Exactly (End phase) → Case script history next → (running (stage_of history) ≡ Some phase) × (phase_to_begin script.runtime (stage_of history) ≡ None)
-end-case script history phase next is (AtEnd over e) = cc
-end-case script history phase next is (ByOwn entry own e) = let same : entry ≡ End phase = cc in absurd (subst (IsOwn script history) same own)
-end-case script history phase next is (ByNeed act need made left upshot e) = cc
-end-case script history phase next is (ByDeed act outcome left plain comes e) = cc
-end-case script history phase next is (ByDue event call now is_call e) = cc
-end-case script history phase next is (ByTurn other node during turn e) = cc
-end-case script history phase next is (ByEnd other ends e) = let same : other ≡ phase = cc in rw (← same) (ends.runs, ends.last)
-end-case script history phase next is (ByBegin begins may e) = cc
-end-case script history phase next is (ByGrant sequencer drawn served e) = cc
-
--- a mark of a phase comes alone
-pub begin-alone : (phase : Phase) (next : Next) → Allows next (Begin phase) → next ≡ Exactly (Begin phase)
-begin-alone phase (Exactly entry) allows = rw allows refl
-begin-alone phase (Answer performer call cause) allows = let other = allows.1 in cc
-begin-alone phase (Need need made performer act) (inl e) = cc
-begin-alone phase (Need need made performer act) (inr declined) = cc
-begin-alone phase (Grant sequencer drawn chosen) allows = let e : Begin phase ≡ Granted sequencer allows.0 = allows.3 in cc
-begin-alone phase Nothing allows = absurd allows
-
-pub end-alone : (phase : Phase) (next : Next) → Allows next (End phase) → next ≡ Exactly (End phase)
-end-alone phase (Exactly entry) allows = rw allows refl
-end-alone phase (Answer performer call cause) allows = let other = allows.1 in cc
-end-alone phase (Need need made performer act) (inl e) = cc
-end-alone phase (Need need made performer act) (inr declined) = cc
-end-alone phase (Grant sequencer drawn chosen) allows = let e : End phase ≡ Granted sequencer allows.0 = allows.3 in cc
-end-alone phase Nothing allows = absurd allows
-
-ended-not : (stage : Stage) (phase : Phase) → running stage ≡ Some phase → stage ≡ Ended → ⊥
+ended-not : (stage : RunStage) (phase : Phase) → running stage ≡ Some phase → stage ≡ Ended → ⊥
 ended-not Before phase runs e = cc
 ended-not (During other) phase runs e = cc
 ended-not (After other) phase runs e = cc
 ended-not Ended phase runs e = cc
 
-few : (stage : Stage) → next_number stage ≤ 21
+few : (stage : RunStage) → next_number stage ≤ 21
 few Before = omega arith
 few (During Build) = omega arith
 few (During phase) = omega arith
@@ -118,7 +63,7 @@ few Ended = omega arith
 
 -- a phase that ends is the next of those that are run
 ends-next :
-    (runtime : Bool) (stage : Stage) (phase : Phase) → is_run_at runtime stage ≡ true → running stage ≡ Some phase → phase_to_begin runtime stage ≡ None
+    (runtime : Bool) (stage : RunStage) (phase : Phase) → is_run_at runtime stage ≡ true → running stage ≡ Some phase → phase_to_begin runtime stage ≡ None
     → phase ∷ reverse (filter (is_run runtime) (take (next_number stage) ending_order)) ≡ reverse (filter (is_run runtime) (take (end_number phase + 1) ending_order))
 ends-next runtime Before phase c runs none = cc
 ends-next true (During Run) phase c runs none = cc
@@ -179,7 +124,7 @@ ends-next true (After Shutdown) phase c runs none = cc
 ends-next runtime (After last) phase c runs none = cc
 ends-next runtime Ended phase c runs none = cc
 
-ends-low : (stage : Stage) (phase : Phase) → running stage ≡ Some phase → next_number stage ≤ end_number phase
+ends-low : (stage : RunStage) (phase : Phase) → running stage ≡ Some phase → next_number stage ≤ end_number phase
 ends-low Before phase runs = cc
 ends-low (During Build) phase runs = let same : Build ≡ phase = cc in rw (← same) (omega arith)
 ends-low (During Connect) phase runs = let same : Connect ≡ phase = cc in rw (← same) (omega arith)
@@ -217,7 +162,7 @@ ends-low (After PostShutdown) phase runs = let same : Run ≡ phase = cc in rw (
 ends-low (After last) phase runs = cc
 ends-low Ended phase runs = cc
 
-ends-run : (runtime : Bool) (stage : Stage) (phase : Phase) → is_run_at runtime stage ≡ true → running stage ≡ Some phase → is_run runtime phase ≡ true
+ends-run : (runtime : Bool) (stage : RunStage) (phase : Phase) → is_run_at runtime stage ≡ true → running stage ≡ Some phase → is_run runtime phase ≡ true
 ends-run runtime Before phase c runs = cc
 ends-run runtime (During last) phase c runs = let same : last ≡ phase = cc in rw (← same) c
 ends-run runtime (After PreReset) phase c runs = let same : Run ≡ phase = cc in rw (← same) refl
@@ -237,14 +182,15 @@ ends-run runtime Ended phase c runs = cc
 
 in-order-more : (script : ScriptValue) (before : List Entry) (entry : Entry) → IsNext script before entry → ArePhasesInOrder script.runtime before → ArePhasesInOrder script.runtime (entry ∷ before)
 in-order-more script before (Begin phase) next order =
-    let begins = begin-case script before phase (next_of script before) (begin-alone phase (next_of script before) next) order.run (case-of script before) in
-    record { run = begins.0.1; are = λ on. rw begins.0.0 (order.are begins.1); before = rw begins.0.0 order.before }
+    let may = comes script before (Begin phase) next in
+    let begins = begin-number script.runtime (stage_of before) phase order.run may in
+    record { run = begins.1; are = λ on. rw begins.0 (order.are (begin-on script.runtime (stage_of before) phase may)); before = rw begins.0 order.before }
 in-order-more script before (End phase) next order =
-    let runs = end-case script before phase (next_of script before) (end-alone phase (next_of script before) next) (case-of script before) in
-    let low = ends-low (stage_of before) phase runs.0 in
+    let ends = comes script before (End phase) next in
+    let low = ends-low (stage_of before) phase ends.runs in
     record {
-      run = ends-run script.runtime (stage_of before) phase order.run runs.0;
-      are = λ going. ap (λ (ended : List Phase). phase ∷ ended) (order.are (ended-not (stage_of before) phase runs.0)) ∙ ends-next script.runtime (stage_of before) phase order.run runs.0 runs.1;
+      run = ends-run script.runtime (stage_of before) phase order.run ends.runs;
+      are = λ going. ap (λ (ended : List Phase). phase ∷ ended) (order.are (ended-not (stage_of before) phase ends.runs)) ∙ ends-next script.runtime (stage_of before) phase order.run ends.runs ends.last;
       before = All-cons (λ other. end_number other < end_number phase + 1) phase (ended_of before) (omega arith) (All-weaker (λ other. end_number other < next_number (stage_of before)) (λ other. end_number other < end_number phase + 1) (λ other lt. omega (arith, lt, low)) (ended_of before) order.before);
     }
 in-order-more script before (Over reason) next order =
@@ -269,7 +215,7 @@ either-of true b e = inl refl
 either-of false true e = inr refl
 either-of false false e = cc
 
-open-going : (runtime : Bool) (stage : Stage) (ended : List Phase) (phase : Phase) → list_any (same_phase phase) (in_progress stage) ≡ true → ended ≡ reverse (filter (is_run runtime) (take (next_number stage) ending_order)) → list_any (same_phase phase) ended ≡ false
+open-going : (runtime : Bool) (stage : RunStage) (ended : List Phase) (phase : Phase) → list_any (same_phase phase) (in_progress stage) ≡ true → ended ≡ reverse (filter (is_run runtime) (take (next_number stage) ending_order)) → list_any (same_phase phase) ended ≡ false
 open-going runtime Before ended phase going are = cc
 open-going true (During Build) ended phase going are = rw are refl
 open-going false (During Build) ended phase going are = rw are refl
@@ -436,7 +382,7 @@ open-going false (After PostShutdown) ended phase going are = let at = number-is
 open-going runtime (After last) ended phase going are = cc
 open-going runtime Ended ended phase going are = cc
 
-goes-on : (stage : Stage) (phase : Phase) → list_any (same_phase phase) (in_progress stage) ≡ true → stage ≡ Ended → ⊥
+goes-on : (stage : RunStage) (phase : Phase) → list_any (same_phase phase) (in_progress stage) ≡ true → stage ≡ Ended → ⊥
 goes-on Before phase going is = cc
 goes-on (During other) phase going is = cc
 goes-on (After other) phase going is = cc

@@ -1,39 +1,9 @@
 -- Where a phase ends that takes time, nothing is raised and nothing held back.
-use Rattle.std.proofs.Common.{◌≡◌, ◌<◌, ◌+◌, ℕ, zero, suc, nat_lt, Bool, true, false, not, ◌||◌, ◌==◌, List, [], ◌∷◌, ◌++◌, length, filter, find, sum_by, Option, Some, None, refl, sym, ap, subst, ◌∙◌, arith, length-append, if◌then◌else◌}
-use Rattle.std.specs.List.{All, Contains, list_any}
-use Rattle.std.specs.Option.{option_map_or}
-use Rattle.std.proofs.lemmas.Bool.Decides.{nat_tests}
-use Rattle.std.proofs.lemmas.List.Elements.{All-nil, All-cons, All-head, All-tail, All-contains, All-contains_itself}
-use Rattle.std.proofs.lemmas.List.Sums.{sum_by-cons}
-use Rattle.std.proofs.lemmas.List.Folds.{list_any-append}
-use Rattle.std.proofs.lemmas.Option.{slice_get_within}
-use Rattle.uvm_phase.specs.declared.phases.Phase.{Phase}
-use Rattle.uvm_phase.specs.declared.phases.Phase.TheVariants.{Build, Connect, EndOfElaboration, StartOfSimulation, Extract, Check, Report, Final}
-use Rattle.uvm_phase.specs.Phases.{is_task, same_phase}
+use Rattle.bench_history.proofs.Common.{◌≡◌, ◌<◌, ◌+◌, ℕ, zero, suc, nat_lt, Bool, true, false, not, ◌||◌, ◌==◌, List, [], ◌∷◌, ◌++◌, length, filter, find, sum_by, Option, Some, None, refl, sym, ap, ◌∙◌, arith, if◌then◌else◌, or-false, or_parts, or_right, list_any, option_map_or, nat_tests, All-nil, All-cons, All-head, All-tail, All-contains, All-contains_itself, sum_by-cons, list_any-append, slice_get_within, Phase, Build, EndOfElaboration, StartOfSimulation, Extract, Check, Report, Final, is_task, same_phase, add_fault, child, node_at, top, new_node, is_known, held_of, source_of, total, is_child, settled, standing, AreUnder, IsTree, PlacesStay, TotalIsSum, places, raised, dropped, with_drain, node_of, Who, Act, Add, RaiseObjection, DropObjection, SetDrain, Outcome, Done, Made, Entry, Did, Drained, End, ScriptValue, act_phase, created_name, in_task, is_of_phase, kind_of, nodes_of, now_of, is_kept, objections_of, stands, with_new, child_refusal, IsNext, EachIsNext, IsQuiet, QuietEnd, length-append, All, Contains, Connect, AreNodes, NodesGrow, released}
 use Rattle.uvm_tree.specs.Nodes as tree
 use Rattle.uvm_tree.specs.declared.nodes.NodeKind.TheVariants as kind
-use Rattle.uvm_tree.specs.Nodes.{add_fault, child, node_at}
-use Rattle.uvm_objection.specs.Nodes.{Node, top, new_node, is_known, held_of, source_of}
-use Rattle.uvm_objection.specs.Totals.{total, is_child, settled, standing}
-use Rattle.uvm_objection.specs.Laws.{AreNodes, AreUnder, IsTree, NodesGrow, PlacesStay, TotalIsSum, places}
-use Rattle.uvm_objection.specs.Nodes.{raised, dropped, released, with_drain}
-use Rattle.uvm_acts.specs.Acts.{node_of}
-use Rattle.uvm_acts.specs.declared.acts.Who.{Who}
-use Rattle.uvm_acts.specs.declared.acts.Act.{Act}
-use Rattle.uvm_acts.specs.declared.acts.Act.TheVariants.{Add, RaiseObjection, DropObjection, SetDrain}
-use Rattle.uvm_object.specs.declared.entries.Outcome.{Outcome}
-use Rattle.uvm_object.specs.declared.entries.Outcome.TheVariants.{Done, Made}
-use Rattle.uvm_object.specs.declared.entries.Entry.{Entry}
-use Rattle.uvm_object.specs.declared.entries.Entry.TheVariants.{Did, Drained, End}
-use Rattle.bench_script.specs.Scripts.{ScriptValue}
-use Rattle.bench_history.specs.History.{act_phase, created_name, in_task, is_of_phase, kind_of, nodes_of, now_of}
-use Rattle.bench_history.specs.Objections.{is_kept, objections_of, stands, with_new}
-use Rattle.bench_history.specs.Refusals.{child_refusal}
-use Rattle.bench_history.specs.Cases.{Next, Exactly}
-use Rattle.bench_history.specs.Next.{next_of, IsNext, EachIsNext}
-use Rattle.bench_history.specs.LegalLogs.{IsQuiet, QuietEnd}
-use Rattle.bench_history.proofs.Inversion.{IsOwn, IsEnding, Case, AtEnd, ByOwn, ByNeed, ByDeed, ByDue, ByTurn, ByEnd, ByBegin, ByGrant, case-of}
-use Rattle.bench_history.proofs.Phased.{end-alone}
+use Rattle.uvm_objection.specs.Nodes.{Node}
+use Rattle.bench_history.proofs.Inversion.{comes}
 use Rattle.bench_history.proofs.Treed.{no-fault, made-free, added-next}
 use Rattle.bench_history.proofs.Olders.{older-each}
 
@@ -51,10 +21,6 @@ less-more : (n k : ℕ) (less last : Bool) → nat_lt n k ≡ less → (k == n) 
 less-more n k true last e f = let low : n < k = grind (arith, nat_tests, e) in sym (grind (arith, nat_tests, low))
 less-more n k false true e f = sym (grind (arith, nat_tests, e, f))
 less-more n k false false e f = sym (grind (arith, nat_tests, e, f))
-
-or-none : (b : Bool) → (b || false) ≡ b
-or-none true = refl
-or-none false = refl
 
 -- a parent is there, where its child is not refused
 parent-known : (nodes : List tree.Node) (parent : ℕ) (name : List ℕ) → child_refusal nodes parent name ≡ None → parent < length nodes
@@ -87,7 +53,7 @@ module _ (stay : PlacesStay) (grow : NodesGrow) where
         all = let both = length-append nodes (new_node (length nodes) parent ∷ []) in omega (arith, both, last);
         known = λ n.
             list_any-append (λ (e : Node). e.node == n) nodes (new_node (length nodes) parent ∷ [])
-            ∙ ap (λ b. is_known n nodes || b) (or-none (length nodes == n))
+            ∙ ap (λ b. is_known n nodes || b) (or-false (length nodes == n))
             ∙ rw (was.known n, last) (less-more n count (nat_lt n count) (count == n) refl refl);
       }
 
@@ -119,7 +85,7 @@ module _ (stay : PlacesStay) (grow : NodesGrow) where
       (phase : Phase) (script : ScriptValue) (before : List Entry) (performer : Who) (outcome : Outcome) (act : Act) → IsNext script before (Did performer outcome act) → AreObjections (objections_of script phase before) (length (nodes_of before))
       → AreObjections (objections_of script phase (Did performer outcome act ∷ before)) (length (nodes_of (Did performer outcome act ∷ before)))
   objections-did phase script before performer (Made type_name) act next was =
-      let low = parent-known (nodes_of before) (node_of performer) (created_name act) (made-free script before performer type_name act (next_of script before) refl next) in
+      let low = parent-known (nodes_of before) (node_of performer) (created_name act) (made-free script before performer type_name act next) in
       grown (nodes_of before) (child (nodes_of before) (node_of performer) (created_name act) kind.Component) _ (made (objections_of script phase before) (length (nodes_of before)) (node_of performer) _ low was)
   objections-did phase script before performer Done (Add name what) next was =
       let low = parent-known (nodes_of before) (node_of performer) name (added-next script before performer name what next) in
@@ -159,14 +125,10 @@ sum-none f p (x ∷ xs) e = tested (p x) refl e (sum-none f p xs)
     tested false is e more = All-cons (λ x. p x ≡ true → f x ≡ 0) x xs (λ passes. cc) (more e)
 
 -- what is there and passes
-or-second : (a b : Bool) → b ≡ true → (a || b) ≡ true
-or-second true b e = refl
-or-second false b e = e
-
 any-there : {X : Type 0} (p : X → Bool) (xs : List X) (x : X) → p x ≡ true → Contains xs x → list_any p xs ≡ true
 any-there p [] x passes has = absurd (omega (arith, has.1))
 any-there p (y ∷ ys) x passes (zero, low, at) = let first : p y ≡ true = rw at passes in rw first refl
-any-there p (y ∷ ys) x passes (suc k, low, at) = or-second (p y) (list_any p ys) (any-there p ys x passes (k, omega (arith, low), at))
+any-there p (y ∷ ys) x passes (suc k, low, at) = or_right (p y) (list_any p ys) (any-there p ys x passes (k, omega (arith, low), at))
 
 abbrev IsZero : List Node → Node → Type 0
 IsZero nodes e = (total nodes e.node ≡ 0) × (e.held ≡ 0)
@@ -272,10 +234,6 @@ quiet-at sums nodes are none node =
     by all false is = record { raised = source-none node nodes is; all = total-none node nodes is; held = held-zero sums nodes are node nodes all }
 
 -- where nothing keeps a phase that takes time, its own objection does not stand
-first-none : (a b : Bool) → (a || b) ≡ false → a ≡ false
-first-none true b e = cc
-first-none false b e = refl
-
 own-quiet : (script : ScriptValue) (phase : Phase) (history : List Entry) → is_task phase ≡ true → is_kept script phase history ≡ false → stands (objections_of script phase history) ≡ false
 unfolding is_kept
 own-quiet script Build history task quiet = cc
@@ -286,24 +244,13 @@ own-quiet script Extract history task quiet = cc
 own-quiet script Check history task quiet = cc
 own-quiet script Report history task quiet = cc
 own-quiet script Final history task quiet = cc
-own-quiet script phase history task quiet = first-none (stands (objections_of script phase history)) _ quiet
+own-quiet script phase history task quiet = (or_parts (stands (objections_of script phase history)) _ quiet).0
 
 -- so none stands where it ends
-ending-case : (script : ScriptValue) (history : List Entry) (phase : Phase) (next : Next) → next ≡ Exactly (End phase) → Case script history next → IsEnding script history phase
-ending-case script history phase next is (AtEnd over e) = cc
-ending-case script history phase next is (ByOwn entry own e) = let same : entry ≡ End phase = cc in absurd (subst (IsOwn script history) same own)
-ending-case script history phase next is (ByNeed act need made left upshot e) = cc
-ending-case script history phase next is (ByDeed act outcome left plain comes e) = cc
-ending-case script history phase next is (ByDue event call now is_call e) = cc
-ending-case script history phase next is (ByTurn running node during turn e) = cc
-ending-case script history phase next is (ByEnd other ends e) = let same : other ≡ phase = cc in subst (IsEnding script history) same ends
-ending-case script history phase next is (ByBegin begins may e) = cc
-ending-case script history phase next is (ByGrant sequencer drawn served e) = cc
-
 pub quiet_end : PlacesStay → NodesGrow → TotalIsSum → QuietEnd
 quiet_end stay grow sums script later before phase node legal takes =
     let each = older-each script later (End phase ∷ before) legal.each in
-    let ending = ending-case script before phase (next_of script before) (end-alone phase (next_of script before) each.0) (case-of script before) in
+    let ending = comes script before (End phase) each.0 in
     let quiet : stands (objections_of script phase before) ≡ false = own-quiet script phase before takes ending.quiet in
     let none : standing (objections_of script phase before) ≡ 0 = grind (arith, nat_tests, quiet) in
     quiet-at sums (objections_of script phase before) (objections-are stay grow phase script before each.1).are_nodes none node

@@ -1,16 +1,5 @@
 -- How many reports are issued.
-use Rattle.std.proofs.Common.{◌≡◌, ℕ, ◌≤◌, ◌+◌, false, List, [], ◌∷◌, ◌++◌, length, filter, map, reverse, Option, Some, None, refl, ap, ◌∙◌, arith, inl, inr}
-use Rattle.std.specs.List.{cons_option}
-use Rattle.std.proofs.lemmas.Bool.{cases_Bool}
-use Rattle.std.proofs.lemmas.List.{reverse-append}
-use Rattle.std.proofs.lemmas.List.Elements.{filter-append}
-use Rattle.uvm_report.specs.Commands.{Command, SetQuitLimit, is_issue}
-use Rattle.uvm_report.specs.Laws.{CommandsAreCounted}
-use Rattle.uvm_object.specs.declared.entries.Entry.{Entry}
-use Rattle.bench_script.specs.Scripts.{ScriptValue}
-use Rattle.bench_history.specs.History.{nodes_of}
-use Rattle.bench_history.specs.Reports.{verbosity_command, action_command, severity_command, script_commands, command_in, report_commands}
-use Rattle.bench_history.specs.Laws.{ReportsAreFew}
+use Rattle.bench_history.proofs.Common.{◌≡◌, ℕ, ◌≤◌, ◌+◌, false, List, [], ◌∷◌, ◌++◌, length, filter, map, reverse, Option, Some, None, refl, ap, ◌∙◌, arith, inl, inr, cons_option, cases_Bool, reverse-append, filter-append, Command, SetQuitLimit, is_issue, CommandsAreCounted, Entry, ScriptValue, nodes_of, verbosity_command, action_command, severity_command, script_commands, command_in, report_commands, ReportsAreFew}
 
 -- what is made of a list by commands that issue no report issues none
 none-of : {A : Type 0} (f : A → Command) → ((x : A) → is_issue (f x) ≡ false) → (xs : List A) → filter is_issue (reverse (map f xs)) ≡ []

@@ -1,53 +1,15 @@
 -- What drivers are sent.
-use Rattle.std.proofs.Common.{◌≡◌, ◌+◌, ℕ, suc, Bool, true, false, not, ◌==◌, ◌⊎◌, inl, inr, List, [], ◌∷◌, ◌++◌, slice_get, Option, Some, None, IsSome, is_none, is_some, option_map, option_and_then, refl, sym, ap, subst, ◌∙◌, arith, if◌then◌else◌}
-use Rattle.std.specs.Option.{option_map_or}
-use Rattle.std.proofs.lemmas.Bool.Decides.{nat_tests}
-use Rattle.uvm_glob.specs.Lists.{first_given}
-use Rattle.uvm_glob.specs.Faults.{fault_if}
-use Rattle.uvm_phase.specs.Laws.{OrderKeepsAll}
-use Rattle.uvm_phase.specs.declared.phases.Phase.{Phase}
-use Rattle.uvm_sequencer.specs.declared.modes.Mode.{Mode}
-use Rattle.uvm_sequencer.specs.declared.drivers.How.{How}
+use Rattle.bench_history.proofs.Common.{◌≡◌, ◌+◌, ℕ, suc, Bool, true, false, not, ◌==◌, ◌⊎◌, inl, inr, List, [], ◌∷◌, ◌++◌, Option, Some, None, IsSome, is_none, is_some, option_map, option_and_then, refl, sym, ap, subst, ◌∙◌, arith, if◌then◌else◌, option_map_or, nat_tests, first_given, fault_if, OrderKeepsAll, Phase, Mode, How, Driver, grant_of, granted_by, hand_of, is_idle, lapsed, left_by, sent, kept_on, numbered, targets_of, Seq, Item, Who, Call, Act, Ask, ItemDone, Send, Fatal, AskedTwice, NoPort, NotGranted, NotOpen, NothingOut, OutsideTask, Outcome, Done, Waits, Finished, Entry, Did, End, Granted, ScriptValue, EventTarget, act_phase, test_creation, performer_of, in_task, starts_of, sequences_of, is_live, closed_wiring, port_below, driver_state, if_arbitrated, leads_there, mode_at, sent_by, sequence_on, sequencer_at, sequencer_below, sequencer_with, asked_in, driver_requester, ends_ask, ask_refusal, done_refusal, driving_refusal, is_open_to, send_refusal, ComesTo, asked_effect, driven_at, has_candidate, next_of, IsNext, EachIsNext, IsLiving, IsThere, IsTakenOut, OneItemOut, count_if, dones_at, ended_at, gets_at, hand_count, in_hand, is_get, keeps_item, sends_at, takes_out, phase_number, same_phase, DriverPort, slice_get, LockExcludes}
 use Rattle.uvm_sequencer.specs.declared.drivers.How.TheVariants as how
-use Rattle.uvm_sequencer.specs.declared.drivers.Driver.{Driver}
 use Rattle.uvm_sequencer.specs.declared.drivers.Driver.TheVariants as driver
-use Rattle.uvm_sequencer.specs.Drivers.{grant_of, granted_by, hand_of, is_idle, lapsed, left_by, sent, kept_on}
-use Rattle.uvm_sequencer.specs.Laws.{LockExcludes}
-use Rattle.uvm_sequences.specs.Sequences.{numbered}
-use Rattle.uvm_tlm.specs.Wirings.{targets_of}
-use Rattle.uvm_tlm.specs.declared.ends.PortKind.TheVariants.{Seq}
-use Rattle.uvm_tlm.specs.declared.items.Item.{Item}
-use Rattle.uvm_acts.specs.declared.acts.Who.{Who}
 use Rattle.uvm_acts.specs.declared.acts.Who.TheVariants as who
-use Rattle.uvm_acts.specs.declared.acts.Call.{Call}
-use Rattle.uvm_acts.specs.declared.acts.Act.{Act}
-use Rattle.uvm_acts.specs.declared.acts.Act.TheVariants.{Ask, ItemDone, Send}
-use Rattle.uvm_object.specs.declared.fatals.Fatal.{Fatal}
-use Rattle.uvm_object.specs.declared.fatals.Fatal.TheVariants.{AskedTwice, NoPort, NotGranted, NotOpen, NothingOut, OutsideTask}
-use Rattle.uvm_object.specs.declared.entries.Outcome.{Outcome}
-use Rattle.uvm_object.specs.declared.entries.Outcome.TheVariants.{Done, Waits, Finished}
-use Rattle.uvm_object.specs.declared.entries.Entry.{Entry}
-use Rattle.uvm_object.specs.declared.entries.Entry.TheVariants.{Did, End, Granted}
-use Rattle.bench_script.specs.Scripts.{ScriptValue}
-use Rattle.bench_history.specs.declared.owners.Owner.{Owner}
-use Rattle.bench_history.specs.History.{act_phase, opening, speaker_of, in_task}
-use Rattle.bench_history.specs.Sequences.{begun_of, sequences_of, is_live}
-use Rattle.bench_history.specs.Wires.{closed_wiring}
-use Rattle.bench_history.specs.Ports.{port_below}
-use Rattle.bench_history.specs.Arbitration.{driver_state, if_arbitrated, leads_there, mode_at, sent_by, sequence_on, sequencer_at, sequencer_below, sequencer_with, asked_in, driver_asker, ends_ask}
-use Rattle.bench_history.specs.Refusals.{ask_refusal, done_refusal, driving_refusal, is_open_to, send_refusal}
-use Rattle.bench_history.specs.Upshots.{ComesTo, asked_upshot, driven_at, has_candidate}
-use Rattle.bench_history.specs.Next.{next_of, IsNext, EachIsNext}
-use Rattle.bench_history.specs.Laws.{IsLiving, IsThere}
-use Rattle.bench_history.specs.LegalLogs.{IsTakenOut, OneItemOut, count_if, dones_at, ended_at, gets_at, hand_count, in_hand, is_get, keeps_item, sends_at, takes_out}
-use Rattle.bench_history.proofs.Awaiting.{asking-of, is_accepted, not-refused, upshot-next}
+use Rattle.bench_history.proofs.Awaiting.{asking-of, is_accepted, not-refused, effect-next}
 use Rattle.bench_history.proofs.Called.{performers_are_there}
-use Rattle.bench_history.proofs.Deeds.{deed-next, is-act}
+use Rattle.bench_history.proofs.Inversion.{comes}
+use Rattle.bench_history.proofs.ActEntries.{is-act}
 use Rattle.bench_history.proofs.Driving.{begun-mode, drivers_are_there}
 use Rattle.bench_history.proofs.Ended.{none-after}
 use Rattle.bench_history.proofs.Olders.{older-each}
-use Rattle.uvm_phase.specs.Phases.{phase_number, same_phase}
-use Rattle.bench_history.specs.declared.askers.DriverPort.{DriverPort}
 
 no-fault : (is : Bool) (fatal : Fatal) → fault_if is fatal ≡ None → is ≡ false
 no-fault true fatal e = cc
@@ -100,7 +62,7 @@ asks-idle script before node performer outcome port way next accepted leads =
     let reached = leads-is node (sequencer_below before performer port) leads in
     let none =
     driving-none (act_phase before) (is_some (sequencer_below before performer port)) (option_and_then ask_refusal (driven_at before performer port))
-    (not-refused performer outcome (Ask port way) (fault_if (not (is_open_to (Ask port way) performer)) NotOpen) _ (asked_upshot way (has_candidate (sequences_of before) (driven_at before performer port))) accepted (upshot-next script before performer outcome (Ask port way) next)) in
+    (not-refused performer outcome (Ask port way) (fault_if (not (is_open_to (Ask port way) performer)) NotOpen) _ (asked_effect way (has_candidate (sequences_of before) (driven_at before performer port))) accepted (effect-next script before performer outcome (Ask port way) next)) in
     let here = rw reached at none in
     idle-at before node (mode_at before node) (reached-mode before performer port node reached) here
 
@@ -116,7 +78,7 @@ done-hand script before node performer port response next leads =
     let reached = leads-is node (sequencer_below before performer port) leads in
     let none =
     driving-none (act_phase before) (is_some (sequencer_below before performer port)) (option_and_then done_refusal (driven_at before performer port))
-    (not-refused performer Done (ItemDone port response) (fault_if (not (is_open_to (ItemDone port response) performer)) NotOpen) _ (ComesTo Done) refl (upshot-next script before performer Done (ItemDone port response) next)) in
+    (not-refused performer Done (ItemDone port response) (fault_if (not (is_open_to (ItemDone port response) performer)) NotOpen) _ (ComesTo Done) refl (effect-next script before performer Done (ItemDone port response) next)) in
     let here = rw reached at none in
     hand-at before node (mode_at before node) (reached-mode before performer port node reached) here
 
@@ -137,31 +99,31 @@ grant-at before node id (Some mode) some e = by (grant_of id (driver_state befor
     by None e = cc
     by (Some way) e = refl
 
-module _ (keeps : OrderKeepsAll Owner (Option Call)) (excludes : LockExcludes) where
+module _ (keeps : OrderKeepsAll EventTarget (Option Call)) (excludes : LockExcludes) where
   -- who performs an act, but the first of all, lives, and his sequencer is there
   pub performer-living :
-      (script : ScriptValue) (before : List Entry) (node id : ℕ) (outcome : Outcome) (act : Act) → EachIsNext script before → IsNext script before (Did (who.Sequence node id) outcome act) → (act ≡ opening script → ⊥) → IsLiving before id node
+      (script : ScriptValue) (before : List Entry) (node id : ℕ) (outcome : Outcome) (act : Act) → EachIsNext script before → IsNext script before (Did (who.Sequence node id) outcome act) → (act ≡ test_creation script → ⊥) → IsLiving before id node
   performer-living script before node id outcome act each next other =
       let performer = who.Sequence node id in
-      let deed = deed-next script before performer outcome act (next_of script before) refl next in
-      by deed.performer_is (performers_are_there keeps excludes script before act each (is-act performer outcome act (next_of script before) next) deed.left)
+      let act_entry = comes script before (Did performer outcome act) next in
+      by act_entry.performer_is (performers_are_there keeps excludes script before act each (is-act performer outcome act (next_of script before) next) act_entry.left)
     where
-      by : who.Sequence node id ≡ speaker_of before → (act ≡ opening script) ⊎ IsThere before (speaker_of before) → IsLiving before id node
+      by : who.Sequence node id ≡ performer_of before → (act ≡ test_creation script) ⊎ IsThere before (performer_of before) → IsLiving before id node
       by speaks (inl opens) = absurd (other opens)
       by speaks (inr there) = subst (IsThere before) (sym speaks) there
 
   pub home-mode :
-      (script : ScriptValue) (before : List Entry) (node id : ℕ) (outcome : Outcome) (act : Act) → EachIsNext script before → IsNext script before (Did (who.Sequence node id) outcome act) → (act ≡ opening script → ⊥) → IsSome (mode_at before node)
+      (script : ScriptValue) (before : List Entry) (node id : ℕ) (outcome : Outcome) (act : Act) → EachIsNext script before → IsNext script before (Did (who.Sequence node id) outcome act) → (act ≡ test_creation script → ⊥) → IsSome (mode_at before node)
   home-mode script before node id outcome act each next other =
       let living = performer-living script before node id outcome act each next other in
       let homes = (drivers_are_there keeps excludes script before each (is-act (who.Sequence node id) outcome act (next_of script before) next)).homes in
-      begun-mode before node (numbered (begun_of before) id) id refl homes living.home_is
+      begun-mode before node (numbered (starts_of before) id) id refl homes living.home_is
 
   sends-granted : (script : ScriptValue) (before : List Entry) (node id : ℕ) (item : Item) → EachIsNext script before → IsNext script before (Did (who.Sequence node id) Done (Send item)) → IsSome (grant_of id (driver_state before node))
   sends-granted script before node id item each next =
       let none =
       not-refused (who.Sequence node id) Done (Send item) (fault_if (not (is_open_to (Send item) (who.Sequence node id))) NotOpen) (option_and_then (send_refusal id) (sequencer_at before node)) (ComesTo Done) refl
-      (upshot-next script before (who.Sequence node id) Done (Send item) next) in
+      (effect-next script before (who.Sequence node id) Done (Send item) next) in
       grant-at before node id (mode_at before node) (home-mode script before node id Done (Send item) each next (λ opens. cc)) none
 
   sending : (script : ScriptValue) (before : List Entry) (node id : ℕ) (performer : Who) (item : Item) → EachIsNext script before → IsNext script before (Did performer Done (Send item)) → sequence_on node performer ≡ Some id → IsSome (grant_of id (driver_state before node))
@@ -216,15 +178,15 @@ either-way a b = by (phase_number a == phase_number b) (phase_number b == phase_
     by true false is at = let same : (phase_number b == phase_number a) ≡ true = grind (arith, nat_tests, is) in sym same ∙ at
     by false true is at = let same : (phase_number a == phase_number b) ≡ true = grind (arith, nat_tests, at) in sym is ∙ same
 
-ends-with : (phase : Phase) (asker : Option DriverPort) (asked : Phase) → option_and_then (λ asker. asker.phase) asker ≡ Some asked → ends_ask phase asker ≡ same_phase asked phase
+ends-with : (phase : Phase) (requester : Option DriverPort) (asked : Phase) → option_and_then (λ requester. requester.phase) requester ≡ Some asked → ends_ask phase requester ≡ same_phase asked phase
 ends-with phase None asked is = cc
-ends-with phase (Some asker) asked is = rw is refl
+ends-with phase (Some requester) asked is = rw is refl
 
 -- and is then taken out of the hand
 taken-with : (phase asked : Phase) (found : Option Phase) → found ≡ Some asked → option_map_or (same_phase phase) found false ≡ same_phase asked phase
 taken-with phase asked found is = rw is (either-way phase asked)
 
-module _ (keeps : OrderKeepsAll Owner (Option Call)) (excludes : LockExcludes) where
+module _ (keeps : OrderKeepsAll EventTarget (Option Call)) (excludes : LockExcludes) where
   asked-by : (script : ScriptValue) (before : List Entry) (node id : ℕ) (phase : Phase) → EachIsNext script before → IsNext script before (End phase) → driver_state before node ≡ driver.InHand id → (asked : Phase) × (asked_in before node ≡ Some asked)
   asked-by script before node id phase each next is =
       let busy : is_idle (driver_state before node) ≡ false = ap is_idle is in
@@ -238,7 +200,7 @@ module _ (keeps : OrderKeepsAll Owner (Option Call)) (excludes : LockExcludes) w
       by : (asked : Phase) → asked_in before node ≡ Some asked → (t : Bool) → same_phase asked phase ≡ t → Stays before node id (End phase)
       by asked on true at = inl (taken-with phase asked (asked_in before node) on ∙ at)
       by asked on false at =
-          let ends : ends_ask phase (driver_asker before node) ≡ false = ends-with phase (driver_asker before node) asked on ∙ at in
+          let ends : ends_ask phase (driver_requester before node) ≡ false = ends-with phase (driver_requester before node) asked on ∙ at in
           inr (ap (λ (b : Bool). kept_on b (is_live (End phase ∷ before)) (driver_state before node)) ends ∙ ap (λ (state : Driver). kept_on false (is_live (End phase ∷ before)) state) is)
 
   stays-more : (script : ScriptValue) (before : List Entry) (node id : ℕ) (entry : Entry) → EachIsNext script before → IsNext script before entry → driver_state before node ≡ driver.InHand id → Stays before node id entry
@@ -338,7 +300,7 @@ counted-asked : (total : ℕ) (others : ℕ) (state : Driver) (way : How) (leads
 counted-asked total others state way true idle e = let none = hand-idle state (idle refl) in omega (arith, e, none)
 counted-asked total others state way false idle e = e
 
-module _ (keeps : OrderKeepsAll Owner (Option Call)) (excludes : LockExcludes) where
+module _ (keeps : OrderKeepsAll EventTarget (Option Call)) (excludes : LockExcludes) where
   counted-sent : (script : ScriptValue) (before : List Entry) (node : ℕ) (performer : Who) (item : Item) → EachIsNext script before → IsNext script before (Did performer Done (Send item)) → AreCounted before node → AreCounted (Did performer Done (Send item) ∷ before) node
   counted-sent script before node performer item each next e = by (sequence_on node performer) refl
     where
@@ -384,10 +346,10 @@ module _ (keeps : OrderKeepsAll Owner (Option Call)) (excludes : LockExcludes) w
       Counted : Bool → Bool → Driver → Type 0
       Counted takes ends state = sends_at before node ≡ gets_at before node + dones_at before node + ((if takes then hand_count state else 0) + ended_at before node) + hand_count (kept_on ends live state)
 
-      in-hand : (id : ℕ) → driver_state before node ≡ driver.InHand id → (asked : Phase) → asked_in before node ≡ Some asked → (t : Bool) → same_phase asked phase ≡ t → Counted (takes_out before node (End phase)) (ends_ask phase (driver_asker before node)) (driver_state before node)
+      in-hand : (id : ℕ) → driver_state before node ≡ driver.InHand id → (asked : Phase) → asked_in before node ≡ Some asked → (t : Bool) → same_phase asked phase ≡ t → Counted (takes_out before node (End phase)) (ends_ask phase (driver_requester before node)) (driver_state before node)
       in-hand id is asked on t at =
           let takes : takes_out before node (End phase) ≡ t = taken-with phase asked (asked_in before node) on ∙ at in
-          let ends : ends_ask phase (driver_asker before node) ≡ t = ends-with phase (driver_asker before node) asked on ∙ at in
+          let ends : ends_ask phase (driver_requester before node) ≡ t = ends-with phase (driver_requester before node) asked on ∙ at in
           let counts : sends_at before node ≡ gets_at before node + dones_at before node + ended_at before node + 1 = e ∙ ap (λ (state : Driver). gets_at before node + dones_at before node + ended_at before node + hand_count state) is in
           rw (takes, ends, is) (counted t counts)
         where
@@ -415,11 +377,11 @@ module _ (keeps : OrderKeepsAll Owner (Option Call)) (excludes : LockExcludes) w
           tested true = refl
           tested false = lapses way
 
-      by : (state : Driver) → driver_state before node ≡ state → Counted (takes_out before node (End phase)) (ends_ask phase (driver_asker before node)) (driver_state before node)
+      by : (state : Driver) → driver_state before node ≡ state → Counted (takes_out before node (End phase)) (ends_ask phase (driver_requester before node)) (driver_state before node)
       by (driver.InHand id) is = let asked = asked-by keeps excludes script before node id phase each next is in in-hand id is asked.0 asked.1 (same_phase asked.0 phase) refl
-      by driver.Idle is = rw is (no-hand driver.Idle (takes_out before node (End phase)) (ends_ask phase (driver_asker before node)) refl (kept-none (ends_ask phase (driver_asker before node)) driver.Idle refl) is)
-      by (driver.Waiting way) is = rw is (no-hand (driver.Waiting way) (takes_out before node (End phase)) (ends_ask phase (driver_asker before node)) refl (kept-none (ends_ask phase (driver_asker before node)) (driver.Waiting way) refl) is)
-      by (driver.Granted id way) is = rw is (no-hand (driver.Granted id way) (takes_out before node (End phase)) (ends_ask phase (driver_asker before node)) refl (kept-none (ends_ask phase (driver_asker before node)) (driver.Granted id way) refl) is)
+      by driver.Idle is = rw is (no-hand driver.Idle (takes_out before node (End phase)) (ends_ask phase (driver_requester before node)) refl (kept-none (ends_ask phase (driver_requester before node)) driver.Idle refl) is)
+      by (driver.Waiting way) is = rw is (no-hand (driver.Waiting way) (takes_out before node (End phase)) (ends_ask phase (driver_requester before node)) refl (kept-none (ends_ask phase (driver_requester before node)) (driver.Waiting way) refl) is)
+      by (driver.Granted id way) is = rw is (no-hand (driver.Granted id way) (takes_out before node (End phase)) (ends_ask phase (driver_requester before node)) refl (kept-none (ends_ask phase (driver_requester before node)) (driver.Granted id way) refl) is)
   counted-more script before entry node each next e = e
 
   counted-of : (script : ScriptValue) (history : List Entry) (node : ℕ) → EachIsNext script history → AreCounted history node

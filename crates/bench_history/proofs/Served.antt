@@ -1,29 +1,11 @@
 -- Whom a driver serves, and who waits for a sequencer.
-use Rattle.std.proofs.Common.{◌≡◌, ℕ, ◌==◌, ◌⊎◌, inl, inr, Bool, true, false, List, [], ◌∷◌, map, filter, All, Option, Some, None, refl, ap, sym, ◌∙◌, if◌then◌else◌}
-use Rattle.std.specs.Option.{option_map_or}
-use Rattle.std.proofs.lemmas.Bool.Decides.{nat_tests}
-use Rattle.std.proofs.Common.{arith}
-use Rattle.std.proofs.lemmas.List.Elements.{All-nil, All-cons, All-head, All-tail, All-push}
-use Rattle.uvm_sequencer.specs.declared.drivers.How.{How}
+use Rattle.bench_history.proofs.Common.{◌≡◌, ℕ, ◌==◌, ◌⊎◌, inl, inr, Bool, true, false, List, [], ◌∷◌, map, filter, Option, Some, None, refl, ap, sym, ◌∙◌, if◌then◌else◌, option_map_or, nat_tests, arith, All-nil, All-cons, All-head, All-tail, All-push, How, Driver, grant_of, granted_by, lapsed, left_by, sent, kept_on, Who, Entry, IfSome, hand_of, Item, Call, Phase, act_phase, DriverPort, DueCall, calls_of_done, calls_of_item, calls_of_send, call_in, requester_by, still_waits, DriverMove, Awaits, IsDone, Sends, Leaves, SequencerRequest, RequestKind, ForItem, ForLock, ForGrab, driver_by, leads_there, sent_by, sequence_on, sequencer_below, with_wish}
+use Rattle.std.proofs.Common.{All}
 use Rattle.uvm_sequencer.specs.declared.drivers.How.TheVariants as how
-use Rattle.uvm_sequencer.specs.declared.drivers.Driver.{Driver}
 use Rattle.uvm_sequencer.specs.declared.drivers.Driver.TheVariants as driver
-use Rattle.uvm_sequencer.specs.Drivers.{grant_of, granted_by, lapsed, left_by, sent, kept_on}
 use Rattle.uvm_sequences.specs.Sequences.{Start}
-use Rattle.uvm_acts.specs.declared.acts.Who.{Who}
-use Rattle.uvm_object.specs.declared.entries.Entry.{Entry}
-use Rattle.std.proofs.Common.{IfSome}
-use Rattle.uvm_sequencer.specs.Drivers.{hand_of}
-use Rattle.uvm_tlm.specs.declared.items.Item.{Item}
 use Rattle.uvm_acts.specs.declared.acts.Who.TheVariants as who
-use Rattle.uvm_acts.specs.declared.acts.Call.{Call}
 use Rattle.uvm_acts.specs.declared.acts.Call.TheVariants as call
-use Rattle.uvm_phase.specs.declared.phases.Phase.{Phase}
-use Rattle.bench_history.specs.History.{act_phase}
-use Rattle.bench_history.specs.declared.askers.DriverPort.{DriverPort}
-use Rattle.bench_history.specs.declared.owners.Told.{Told}
-use Rattle.bench_history.specs.Dues.{told_done, told_item, told_sent, told_in}
-use Rattle.bench_history.specs.Arbitration.{asker_by, still_waits, DriverMove, Awaits, IsDone, Sends, Leaves, Wanted, Wish, ForItem, ForLock, ForGrab, driver_by, leads_there, sent_by, sequence_on, sequencer_below, with_wish}
 
 -- the sequence that is granted, or whose item is in hand
 abbrev pub driver_sequence : Driver → Option ℕ
@@ -109,10 +91,10 @@ HoldsOf P (Some n) = P n
 
 -- what holds of all who want something holds with one more
 module _ (P : ℕ → Type 0) where
-  abbrev pub IsBy : Wanted → Type 0
+  abbrev pub IsBy : SequencerRequest → Type 0
   IsBy w = P w.request.seq
 
-  pub wish-all : (started : List Start) (place : ℕ) (wish : Option Wish) (id : Option ℕ) (asked : List Wanted) → All IsBy asked → (wish ≡ None) ⊎ HoldsOf P id → All IsBy (with_wish started place wish id asked)
+  pub wish-all : (started : List Start) (place : ℕ) (wish : Option RequestKind) (id : Option ℕ) (asked : List SequencerRequest) → All IsBy asked → (wish ≡ None) ⊎ HoldsOf P id → All IsBy (with_wish started place wish id asked)
   wish-all started place None id asked all by = all
   wish-all started place (Some wish) None asked all by = all
   wish-all started place (Some wish) (Some id) asked all (inl none) = cc
@@ -132,40 +114,40 @@ abbrev pub awaits : Option DriverMove → Bool
 awaits (Some (Awaits port way)) = true
 awaits move = false
 
-pub asked-by : (C : Who → Option Phase → Type 0) (before : List Entry) (node : ℕ) (performer : Who) (move : Option DriverMove) (asker : Option DriverPort) → IfSome asker (λ asker. C asker.who asker.phase) → (awaits move ≡ false) ⊎ C performer (act_phase before) → IfSome (asker_by before node performer move asker) (λ asker. C asker.who asker.phase)
-asked-by C before node performer None asker has by = has
-asked-by C before node performer (Some (Awaits port way)) asker has (inl none) = cc
-asked-by C before node performer (Some (Awaits port way)) asker has (inr holds) = tested (leads_there node (sequencer_below before performer port))
+pub asked-by : (C : Who → Option Phase → Type 0) (before : List Entry) (node : ℕ) (performer : Who) (move : Option DriverMove) (requester : Option DriverPort) → IfSome requester (λ requester. C requester.who requester.phase) → (awaits move ≡ false) ⊎ C performer (act_phase before) → IfSome (requester_by before node performer move requester) (λ requester. C requester.who requester.phase)
+asked-by C before node performer None requester has by = has
+asked-by C before node performer (Some (Awaits port way)) requester has (inl none) = cc
+asked-by C before node performer (Some (Awaits port way)) requester has (inr holds) = tested (leads_there node (sequencer_below before performer port))
   where
-    tested : (b : Bool) → IfSome (if b then Some (record { who = performer; name = port; phase = act_phase before }) else asker) (λ asker. C asker.who asker.phase)
+    tested : (b : Bool) → IfSome (if b then Some (record { who = performer; name = port; phase = act_phase before }) else requester) (λ requester. C requester.who requester.phase)
     tested true = holds
     tested false = has
-asked-by C before node performer (Some (IsDone port)) asker has by = has
-asked-by C before node performer (Some Sends) asker has by = has
-asked-by C before node performer (Some Leaves) asker has by = has
+asked-by C before node performer (Some (IsDone port)) requester has by = has
+asked-by C before node performer (Some Sends) requester has by = has
+asked-by C before node performer (Some Leaves) requester has by = has
 
 -- what is told to a driver, and to who sends, is told to whom this holds
-module _ (T : Told → Type 0) (E : Option Phase → Who → Type 0) (told : (phase : Option Phase) (who : Who) (call : Call) → E phase who → T (told_in phase who call)) where
-  pub item-told : (asker : Option DriverPort) (item : Option Item) → IfSome asker (λ asker. E asker.phase asker.who) → All T (told_item asker item)
+module _ (T : DueCall → Type 0) (E : Option Phase → Who → Type 0) (told : (phase : Option Phase) (who : Who) (call : Call) → E phase who → T (call_in phase who call)) where
+  pub item-told : (requester : Option DriverPort) (item : Option Item) → IfSome requester (λ requester. E requester.phase requester.who) → All T (calls_of_item requester item)
   item-told None item has = All-nil T
-  item-told (Some asker) item has = All-cons T (told_in asker.phase asker.who (call.NextItem asker.name item)) [] (told asker.phase asker.who (call.NextItem asker.name item) has) (All-nil T)
+  item-told (Some requester) item has = All-cons T (call_in requester.phase requester.who (call.NextItem requester.name item)) [] (told requester.phase requester.who (call.NextItem requester.name item) has) (All-nil T)
 
-  pub sent-told : (phase : Option Phase) (performer : Who) (asker : Option DriverPort) (item : Item) (way : Option How) → IfSome asker (λ asker. E asker.phase asker.who) → E phase performer → All T (told_sent phase performer asker item way)
-  sent-told phase performer asker item None has sends = All-nil T
-  sent-told phase performer asker item (Some how.Get) has sends = All-push T (told_item asker (Some item)) (told_in phase performer (call.ItemDone None)) (item-told asker (Some item) has) (told phase performer (call.ItemDone None) sends)
-  sent-told phase performer asker item (Some how.Next) has sends = item-told asker (Some item) has
-  sent-told phase performer asker item (Some how.Try) has sends = item-told asker (Some item) has
+  pub sent-told : (phase : Option Phase) (performer : Who) (requester : Option DriverPort) (item : Item) (way : Option How) → IfSome requester (λ requester. E requester.phase requester.who) → E phase performer → All T (calls_of_send phase performer requester item way)
+  sent-told phase performer requester item None has sends = All-nil T
+  sent-told phase performer requester item (Some how.Get) has sends = All-push T (calls_of_item requester (Some item)) (call_in phase performer (call.ItemDone None)) (item-told requester (Some item) has) (told phase performer (call.ItemDone None) sends)
+  sent-told phase performer requester item (Some how.Next) has sends = item-told requester (Some item) has
+  sent-told phase performer requester item (Some how.Try) has sends = item-told requester (Some item) has
 
-  pub lapse-told : (lapses : Bool) (asker : Option DriverPort) → IfSome asker (λ asker. E asker.phase asker.who) → All T (if lapses then told_item asker None else [])
-  lapse-told true asker has = item-told asker None has
-  lapse-told false asker has = All-nil T
+  pub lapse-told : (lapses : Bool) (requester : Option DriverPort) → IfSome requester (λ requester. E requester.phase requester.who) → All T (if lapses then calls_of_item requester None else [])
+  lapse-told true requester has = item-told requester None has
+  lapse-told false requester has = All-nil T
 
-  pub done-told : (phase : ℕ → Option Phase) (response : Option Item) (node : ℕ) (hand : Option ℕ) → ((id : ℕ) → hand ≡ Some id → E (phase id) (who.Sequence node id)) → All T (told_done phase response node hand)
+  pub done-told : (phase : ℕ → Option Phase) (response : Option Item) (node : ℕ) (hand : Option ℕ) → ((id : ℕ) → hand ≡ Some id → E (phase id) (who.Sequence node id)) → All T (calls_of_done phase response node hand)
   done-told phase response node None has = All-nil T
-  done-told phase response node (Some id) has = All-cons T (told_in (phase id) (who.Sequence node id) (call.ItemDone response)) [] (told (phase id) (who.Sequence node id) (call.ItemDone response) (has id refl)) (All-nil T)
+  done-told phase response node (Some id) has = All-cons T (call_in (phase id) (who.Sequence node id) (call.ItemDone response)) [] (told (phase id) (who.Sequence node id) (call.ItemDone response) (has id refl)) (All-nil T)
 
 -- what holds of all that waits holds of the queue
-pub queue-all : (history : List Entry) (node : ℕ) (P : ℕ → Type 0) (asked : List Wanted) → All (λ w. still_waits history node w ≡ true → P w.request.seq) asked → All (λ request. P request.seq) (map (λ w. w.request) (filter (still_waits history node) asked))
+pub queue-all : (history : List Entry) (node : ℕ) (P : ℕ → Type 0) (asked : List SequencerRequest) → All (λ w. still_waits history node w ≡ true → P w.request.seq) asked → All (λ request. P request.seq) (map (λ w. w.request) (filter (still_waits history node) asked))
 queue-all history node P [] all = All-nil _
 queue-all history node P (w ∷ asked) all = tested (still_waits history node w) refl (All-head (λ w. still_waits history node w ≡ true → P w.request.seq) w asked all) (queue-all history node P asked (All-tail (λ w. still_waits history node w ≡ true → P w.request.seq) w asked all))
   where

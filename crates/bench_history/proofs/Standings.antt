@@ -1,22 +1,8 @@
 -- The components are the nodes of this kind.
-use Rattle.std.proofs.Common.{◌≡◌, ◌<◌, ℕ, suc, List, [], ◌∷◌, ◌++◌, length, Some, Contains, option_map, refl, ap, sym, ◌∙◌, inl, inr, arith, subst}
-use Rattle.std.proofs.lemmas.Bool.{cases_lt}
-use Rattle.std.proofs.lemmas.List.Elements.{All-nil, All-push, All-weaker, Contains-append_left, Contains-push}
-use Rattle.std.proofs.lemmas.List.{length-append}
-use Rattle.uvm_tree.specs.Nodes.{Node, node_at}
-use Rattle.uvm_tree.specs.declared.nodes.NodeKind.{NodeKind}
+use Rattle.bench_history.proofs.Common.{◌≡◌, ◌<◌, ℕ, suc, List, [], ◌∷◌, ◌++◌, length, Some, option_map, refl, ap, sym, ◌∙◌, inl, inr, arith, subst, cases_lt, All-nil, All-push, All-weaker, Contains-append_left, Contains-push, node_at, NodeKind, Act, Add, What, Who, Outcome, Made, Done, Entry, Did, nodes_of, components_of, kind_of, AreComponentNodes, ComponentsByKind, IsComponentNode, length-append, Node}
+use Rattle.std.proofs.Common.{Contains}
 use Rattle.uvm_tree.specs.declared.nodes.NodeKind.TheVariants as kind
-use Rattle.uvm_acts.specs.declared.acts.Act.{Act}
-use Rattle.uvm_acts.specs.declared.acts.Act.TheVariants.{Add}
-use Rattle.uvm_acts.specs.declared.acts.What.{What}
 use Rattle.uvm_acts.specs.declared.acts.What.TheVariants as what
-use Rattle.uvm_acts.specs.declared.acts.Who.{Who}
-use Rattle.uvm_object.specs.declared.entries.Outcome.{Outcome}
-use Rattle.uvm_object.specs.declared.entries.Outcome.TheVariants.{Made, Done}
-use Rattle.uvm_object.specs.declared.entries.Entry.{Entry}
-use Rattle.uvm_object.specs.declared.entries.Entry.TheVariants.{Did}
-use Rattle.bench_history.specs.History.{nodes_of, components_of, kind_of}
-use Rattle.bench_history.specs.Laws.{AreComponentNodes, ComponentsByKind, IsComponentNode}
 use Rattle.bench_history.proofs.Asking.{get-before}
 use Rattle.bench_history.proofs.Grown.{get-behind, nodes-more}
 
@@ -71,13 +57,13 @@ added-other (what.Port port) e = cc
 added-other (what.Export port) e = cc
 added-other what.Imp e = cc
 
-by-deed : (before : List Entry) (performer : Who) (outcome : Outcome) (act : Act) → AreComponentNodes (nodes_of before) (components_of before) → AreComponentNodes (nodes_of (Did performer outcome act ∷ before)) (components_of (Did performer outcome act ∷ before))
-by-deed before performer (Made type_name) act a = with-component (nodes_of before) _ (components_of before) (some-nodes before) refl a
-by-deed before performer Done (Add name added) a = with-other (nodes_of before) _ (components_of before) (added-other added) a
-by-deed before performer Done act a = a
-by-deed before performer outcome act a = a
+by-act_entry : (before : List Entry) (performer : Who) (outcome : Outcome) (act : Act) → AreComponentNodes (nodes_of before) (components_of before) → AreComponentNodes (nodes_of (Did performer outcome act ∷ before)) (components_of (Did performer outcome act ∷ before))
+by-act_entry before performer (Made type_name) act a = with-component (nodes_of before) _ (components_of before) (some-nodes before) refl a
+by-act_entry before performer Done (Add name added) a = with-other (nodes_of before) _ (components_of before) (added-other added) a
+by-act_entry before performer Done act a = a
+by-act_entry before performer outcome act a = a
 
 pub components_by_kind : ComponentsByKind
 components_by_kind [] = record { each = All-nil (IsComponentNode (nodes_of [])); whole = λ n one. absurd (let low = one.0 in let high = one.1 in omega arith) }
-components_by_kind (Did performer outcome act ∷ before) = by-deed before performer outcome act (components_by_kind before)
+components_by_kind (Did performer outcome act ∷ before) = by-act_entry before performer outcome act (components_by_kind before)
 components_by_kind (entry ∷ before) = components_by_kind before

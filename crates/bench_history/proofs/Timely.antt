@@ -1,47 +1,14 @@
 -- What is due happens at its time.
-use Rattle.std.proofs.Common.{◌++◌, ◌≡◌, ◌≤◌, ◌<◌, ◌+◌, ◌-◌, ℕ, suc, nat_lt, Bool, true, false, not, ◌&&◌, ◌||◌, ◌==◌, List, [], ◌∷◌, length, filter, find, map, Option, Some, None, refl, sym, ap, subst, ◌∙◌, inl, inr, arith, if◌then◌else◌}
-use Rattle.std.specs.List.{All, flat_map, slice_get}
-use Rattle.std.specs.Option.{option_map_or}
-use Rattle.std.proofs.lemmas.Bool.Decides.{nat_tests}
-use Rattle.std.proofs.lemmas.List.Elements.{All-nil, All-cons, All-head, All-tail, All-append, All-filter, All-weaker}
-use Rattle.uvm_phase.specs.declared.phases.Phase.{Phase}
-use Rattle.uvm_phase.specs.declared.agendas.Cause.{Cause}
-use Rattle.uvm_phase.specs.Dues.{in_order, insert_due, is_due_before}
+use Rattle.bench_history.proofs.Common.{◌++◌, ◌≡◌, ◌≤◌, ◌<◌, ◌+◌, ◌-◌, ℕ, suc, nat_lt, Bool, true, false, not, ◌&&◌, ◌||◌, ◌==◌, List, [], ◌∷◌, length, filter, find, map, Option, Some, None, refl, sym, ap, subst, ◌∙◌, arith, if◌then◌else◌, option_map_or, nat_tests, All-nil, All-cons, All-head, All-tail, All-append, All-filter, All-weaker, Phase, Cause, in_order, insert_due, is_due_before, changed_at, held_of, drain_of, due_of, raised, dropped, begins, drains_begun, drains_ended, held_after, settled, total, BegunDrainsAreHeld, IsHeldUntilDue, PlacesStay, SettledGoByTotals, node_of, Who, Call, Act, Wait, RaiseObjection, DropObjection, Outcome, Done, Waits, Origin, Entry, Heard, Did, Locked, Granted, Passed, Drained, End, ScriptValue, DueCall, EventTarget, Object, Drain, Event, is_drain_of, who_of, act_phase, ended_of, now_of, finished_of, phase_begun, objections_of, call_to_performer, call_of_passage, calls_caused, calls_numbered, due_after, due_from, due_events, calls_from, moves_drains, caused_at, scheduled_events, drain_from, event_in, with_drains, with_drains_of, first_due, delivered_causes, is_open, lapsed_with, EachIsNext, IsLegal, IsWakeTime, IsAtCause, IsDrainTime, call_time, IsPassing, All, flat_map, released, AreNodes, NodesGrow}
+use Rattle.std.specs.List.{slice_get}
 use Rattle.uvm_objection.specs.declared.objections.Due as drain
 use Rattle.uvm_objection.specs.Nodes as objection
-use Rattle.uvm_objection.specs.Nodes.{changed_at, held_of, drain_of, due_of, raised, dropped, released}
-use Rattle.uvm_objection.specs.Totals.{begins, drains_begun, drains_ended, held_after, settled, total}
 use Rattle.uvm_objection.specs.Totals as totals
-use Rattle.uvm_objection.specs.Laws.{AreNodes, BegunDrainsAreHeld, IsHeldUntilDue, NodesGrow, PlacesStay, SettledGoByTotals}
-use Rattle.uvm_acts.specs.Acts.{node_of}
-use Rattle.uvm_acts.specs.declared.acts.Who.{Who}
-use Rattle.uvm_acts.specs.declared.acts.Call.{Call}
 use Rattle.uvm_acts.specs.declared.acts.Call.TheVariants as call
 use Rattle.uvm_acts.specs.declared.acts.Who.TheVariants as who
-use Rattle.uvm_acts.specs.declared.acts.Act.{Act}
-use Rattle.uvm_acts.specs.declared.acts.Act.TheVariants.{Wait, RaiseObjection, DropObjection}
-use Rattle.uvm_object.specs.declared.entries.Outcome.{Outcome}
-use Rattle.uvm_object.specs.declared.entries.Outcome.TheVariants.{Done, Waits}
-use Rattle.uvm_object.specs.declared.entries.Origin.{Origin}
-use Rattle.uvm_object.specs.declared.entries.Entry.{Entry}
-use Rattle.uvm_object.specs.declared.entries.Entry.TheVariants.{Heard, Did, Locked, Granted, Passed, Drained, End}
-use Rattle.bench_script.specs.Scripts.{ScriptValue}
-use Rattle.bench_history.specs.declared.owners.Told.{Told}
-use Rattle.bench_history.specs.declared.owners.Owner.{Owner}
-use Rattle.bench_history.specs.declared.owners.Owner.TheVariants.{Object, Drain}
-use Rattle.bench_history.specs.Owners.{Event, is_drain_of, who_of}
-use Rattle.bench_history.specs.History.{act_phase, ended_of, now_of}
-use Rattle.bench_history.specs.Sequences.{finished_of, phase_begun}
-use Rattle.bench_history.specs.Objections.{objections_of}
-use Rattle.bench_history.specs.Dues.{told_by, told_of, calls_told, calls_numbered, due_after, due_from, due_events, calls_from, moves_drains, caused_at, caused_of, drain_from, event_in, with_drains, with_drains_of, first_due, heard_of, is_open, lapsed_with}
-use Rattle.bench_history.specs.Cases.{Next, Exactly, Answer, Need, Grant, Nothing}
-use Rattle.bench_history.specs.Next.{next_of, Allows, EachIsNext, IsLegal}
-use Rattle.bench_history.specs.LegalLogs.{IsWakeTime, IsAtCause, IsDrainTime, call_time}
 use Rattle.bench_history.proofs.Expected.{both-hold}
-use Rattle.bench_history.proofs.Grown.{IsPlain, IsPlainNext, plain-next}
-use Rattle.bench_history.proofs.Inversion.{IsPassing}
+use Rattle.bench_history.proofs.Inversion.{comes}
 use Rattle.bench_history.proofs.Olders.{older-each}
-use Rattle.bench_history.proofs.Performed.{due_calls_go_in_order, drains_go_in_order}
 use Rattle.bench_history.proofs.Living.{same-itself}
 use Rattle.bench_history.proofs.Quiet.{objections-are}
 use Rattle.bench_history.proofs.Waking.{IsWoken, woken-of}
@@ -54,7 +21,7 @@ pub record IsCallTime (history : List Entry) (cause : Cause) (time : ℕ) : Type
   pub time_is : time ≡ call_time entry (now_of before)
 
 -- an event is due at the time that its cause gave it
-abbrev IsTimedBy : ScriptValue → List Entry → Phase → Cause → ℕ → Owner → Option Call → Type 0
+abbrev IsTimedBy : ScriptValue → List Entry → Phase → Cause → ℕ → EventTarget → Option Call → Type 0
 IsTimedBy script history phase cause time owner (Some call) = IsCallTime history cause time
 IsTimedBy script history phase cause time (Drain node of) None = IsDrainTime script history phase node cause time
 IsTimedBy script history phase cause time (Object who) None = ⊥
@@ -66,7 +33,7 @@ IsTimed script history event = IsTimedBy script history event.phase event.cause 
 at-later : (new : Entry) (history : List Entry) (cause : Cause) (entry : Entry) (before : List Entry) → IsAtCause history cause entry before → IsAtCause (new ∷ history) cause entry before
 at-later new history cause entry before at = record { later = new ∷ at.later; splits = ap (λ log. new ∷ log) at.splits; place = at.place }
 
-timed-later : (script : ScriptValue) (new : Entry) (history : List Entry) (phase : Phase) (cause : Cause) (time : ℕ) (owner : Owner) (notice : Option Call) → IsTimedBy script history phase cause time owner notice → IsTimedBy script (new ∷ history) phase cause time owner notice
+timed-later : (script : ScriptValue) (new : Entry) (history : List Entry) (phase : Phase) (cause : Cause) (time : ℕ) (owner : EventTarget) (notice : Option Call) → IsTimedBy script history phase cause time owner notice → IsTimedBy script (new ∷ history) phase cause time owner notice
 timed-later script new history phase cause time owner (Some call) t = record { entry = t.entry; before = t.before; at = at-later new history cause t.entry t.before t.at; time_is = t.time_is }
 timed-later script new history phase cause time (Drain node of) None t = record { entry = t.entry; before = t.before; at = at-later new history cause t.entry t.before t.at; none_held = t.none_held; holds = t.holds; time_is = t.time_is }
 timed-later script new history phase cause time (Object who) None t = absurd t
@@ -81,7 +48,7 @@ at-newest entry before number = record { later = []; splits = refl; place = refl
 call-newest : (entry : Entry) (before : List Entry) (number time : ℕ) → time ≡ call_time entry (now_of before) → IsCallTime (entry ∷ before) (record { place = length before; number = number }) time
 call-newest entry before number time is = record { entry = entry; before = before; at = at-newest entry before number; time_is = is }
 
-event-timed : (script : ScriptValue) (history : List Entry) (phase : Option Phase) (time : ℕ) (cause : Cause) (owner : Owner) (notice : Option Call) → ((one : Phase) → IsTimedBy script history one cause time owner notice) → All (IsTimed script history) (event_in phase time cause owner notice)
+event-timed : (script : ScriptValue) (history : List Entry) (phase : Option Phase) (time : ℕ) (cause : Cause) (owner : EventTarget) (notice : Option Call) → ((one : Phase) → IsTimedBy script history one cause time owner notice) → All (IsTimed script history) (event_in phase time cause owner notice)
 event-timed script history None time cause owner notice t = All-nil (IsTimed script history)
 event-timed script history (Some phase) time cause owner notice t = All-cons (IsTimed script history) _ [] (t phase) (All-nil (IsTimed script history))
 
@@ -90,18 +57,18 @@ due-timed script history None performer phase time cause t = All-nil (IsTimed sc
 due-timed script history (Some call) performer phase time cause t = event-timed script history phase time cause (Object performer) (Some call) (λ one. t call refl)
 
 numbered-timed :
-    (script : ScriptValue) (entry : Entry) (before : List Entry) (number : ℕ) (calls : List Told) → now_of before ≡ call_time entry (now_of before)
+    (script : ScriptValue) (entry : Entry) (before : List Entry) (number : ℕ) (calls : List DueCall) → now_of before ≡ call_time entry (now_of before)
     → All (IsTimed script (entry ∷ before)) (calls_numbered (now_of before) (length before) number calls)
 numbered-timed script entry before number [] is = All-nil _
 numbered-timed script entry before number (told ∷ calls) is =
     All-append (IsTimed script (entry ∷ before)) (calls_numbered (now_of before) (length before) (suc number) calls) _ (numbered-timed script entry before (suc number) calls is)
     (event-timed script (entry ∷ before) told.phase (now_of before) (record { place = length before; number = number }) (Object told.who) (Some told.call) (λ one. call-newest entry before number (now_of before) is))
 
-told-timed : (script : ScriptValue) (before : List Entry) (performer : Who) (outcome : Outcome) (act : Act) → All (IsTimed script (Did performer outcome act ∷ before)) (calls_numbered (now_of before) (length before) 0 (calls_told before performer outcome act))
+told-timed : (script : ScriptValue) (before : List Entry) (performer : Who) (outcome : Outcome) (act : Act) → All (IsTimed script (Did performer outcome act ∷ before)) (calls_numbered (now_of before) (length before) 0 (calls_caused before performer outcome act))
 told-timed script before performer Done (Wait ticks tag) = All-nil _
-told-timed script before performer outcome act = numbered-timed script (Did performer outcome act) before 0 (calls_told before performer outcome act) refl
+told-timed script before performer outcome act = numbered-timed script (Did performer outcome act) before 0 (calls_caused before performer outcome act) refl
 
-due-time : (performer : Who) (outcome : Outcome) (act : Act) (now : ℕ) (call : Call) → told_by outcome act ≡ Some call → due_after now act ≡ call_time (Did performer outcome act) now
+due-time : (performer : Who) (outcome : Outcome) (act : Act) (now : ℕ) (call : Call) → call_to_performer outcome act ≡ Some call → due_after now act ≡ call_time (Did performer outcome act) now
 due-time performer Done (Wait ticks tag) now call e = refl
 due-time performer (Waits true) (Wait ticks tag) now call e = cc
 due-time performer (Waits false) (Wait ticks tag) now call e = cc
@@ -110,7 +77,7 @@ due-time performer outcome act now call e = refl
 
 from-timed : (script : ScriptValue) (before : List Entry) (performer : Who) (outcome : Outcome) (act : Act) → All (IsTimed script (Did performer outcome act ∷ before)) (calls_from outcome act performer (act_phase before) (now_of before) (length before))
 from-timed script before performer outcome act =
-    due-timed script (Did performer outcome act ∷ before) (told_by outcome act) performer (act_phase before) (due_after (now_of before) act) (caused_at (length before))
+    due-timed script (Did performer outcome act ∷ before) (call_to_performer outcome act) performer (act_phase before) (due_after (now_of before) act) (caused_at (length before))
     (λ call e. call-newest (Did performer outcome act) before 0 (due_after (now_of before) act) (due-time performer outcome act (now_of before) call e))
 
 -- a drain that begins is due once its drain time is over
@@ -230,56 +197,56 @@ module _ (goes : SettledGoByTotals) (held_are : BegunDrainsAreHeld) where
 
   with-timed :
       (script : ScriptValue) (phase : Phase) (entry : Entry) (before : List Entry) (changed : List objection.Node) → IsChanged (objections_of script phase before) changed → objections_of script phase (entry ∷ before) ≡ settled (now_of before) (total (objections_of script phase before)) changed → AreNodes (objections_of script phase (entry ∷ before))
-      → All (IsTimed script before) (caused_of script before) → All (IsTimed script (entry ∷ before)) (with_drains phase (caused_at (length before)) (objections_of script phase before) (objections_of script phase (entry ∷ before)) (caused_of script before))
+      → All (IsTimed script before) (scheduled_events script before) → All (IsTimed script (entry ∷ before)) (with_drains phase (caused_at (length before)) (objections_of script phase before) (objections_of script phase (entry ∷ before)) (scheduled_events script before))
   with-timed script phase entry before changed by is are all =
       let earlier = objections_of script phase before in
       let after = objections_of script phase (entry ∷ before) in
       All-append (IsTimed script (entry ∷ before)) (flat_map (drain_from phase (caused_at (length before))) (drains_begun earlier after)) _
       (drains-timed script (entry ∷ before) phase (caused_at (length before)) (drains_begun earlier after) (begun-timed script phase entry before changed by is are))
-      (All-filter (λ (event : Event). not (is_drain_of phase (drains_ended earlier after) event.owner)) (IsTimed script (entry ∷ before)) (caused_of script before) (all-later script entry before (caused_of script before) all))
+      (All-filter (λ (event : Event). not (is_drain_of phase (drains_ended earlier after) event.owner)) (IsTimed script (entry ∷ before)) (scheduled_events script before) (all-later script entry before (scheduled_events script before) all))
 
   moved-timed :
-      (script : ScriptValue) (before : List Entry) (performer : Who) (outcome : Outcome) (act : Act) → ((phase : Phase) → AreNodes (objections_of script phase (Did performer outcome act ∷ before))) → All (IsTimed script before) (caused_of script before)
-      → All (IsTimed script (Did performer outcome act ∷ before)) (if moves_drains outcome act then with_drains_of script (act_phase before) (Did performer outcome act) before (caused_of script before) else caused_of script before)
+      (script : ScriptValue) (before : List Entry) (performer : Who) (outcome : Outcome) (act : Act) → ((phase : Phase) → AreNodes (objections_of script phase (Did performer outcome act ∷ before))) → All (IsTimed script before) (scheduled_events script before)
+      → All (IsTimed script (Did performer outcome act ∷ before)) (if moves_drains outcome act then with_drains_of script (act_phase before) (Did performer outcome act) before (scheduled_events script before) else scheduled_events script before)
   moved-timed script before performer Done (RaiseObjection count) are all = by (act_phase before) refl
     where
       entry : Entry
       entry = Did performer Done (RaiseObjection count)
 
-      by : (phase : Option Phase) → act_phase before ≡ phase → All (IsTimed script (entry ∷ before)) (with_drains_of script phase entry before (caused_of script before))
-      by None is = all-later script entry before (caused_of script before) all
+      by : (phase : Option Phase) → act_phase before ≡ phase → All (IsTimed script (entry ∷ before)) (with_drains_of script phase entry before (scheduled_events script before))
+      by None is = all-later script entry before (scheduled_events script before) all
       by (Some phase) is = with-timed script phase entry before (raised (node_of performer) count (objections_of script phase before)) (raised-is (node_of performer) count (objections_of script phase before)) (rw (is, same-itself phase) refl) (are phase) all
   moved-timed script before performer Done (DropObjection count) are all = by (act_phase before) refl
     where
       entry : Entry
       entry = Did performer Done (DropObjection count)
 
-      by : (phase : Option Phase) → act_phase before ≡ phase → All (IsTimed script (entry ∷ before)) (with_drains_of script phase entry before (caused_of script before))
-      by None is = all-later script entry before (caused_of script before) all
+      by : (phase : Option Phase) → act_phase before ≡ phase → All (IsTimed script (entry ∷ before)) (with_drains_of script phase entry before (scheduled_events script before))
+      by None is = all-later script entry before (scheduled_events script before) all
       by (Some phase) is = with-timed script phase entry before (dropped (node_of performer) count (objections_of script phase before)) (dropped-is (node_of performer) count (objections_of script phase before)) (rw (is, same-itself phase) refl) (are phase) all
-  moved-timed script before performer outcome act are all = all-later script (Did performer outcome act) before (caused_of script before) all
+  moved-timed script before performer outcome act are all = all-later script (Did performer outcome act) before (scheduled_events script before) all
 
   -- each entry keeps it so
-  timed-more : (script : ScriptValue) (entry : Entry) (before : List Entry) → ((phase : Phase) → AreNodes (objections_of script phase (entry ∷ before))) → All (IsTimed script before) (caused_of script before) → All (IsTimed script (entry ∷ before)) (caused_of script (entry ∷ before))
+  timed-more : (script : ScriptValue) (entry : Entry) (before : List Entry) → ((phase : Phase) → AreNodes (objections_of script phase (entry ∷ before))) → All (IsTimed script before) (scheduled_events script before) → All (IsTimed script (entry ∷ before)) (scheduled_events script (entry ∷ before))
   timed-more script (Did performer outcome act) before are all =
-      All-append (IsTimed script (Did performer outcome act ∷ before)) (calls_numbered (now_of before) (length before) 0 (calls_told before performer outcome act)) _ (told-timed script before performer outcome act)
+      All-append (IsTimed script (Did performer outcome act ∷ before)) (calls_numbered (now_of before) (length before) 0 (calls_caused before performer outcome act)) _ (told-timed script before performer outcome act)
       (All-append (IsTimed script (Did performer outcome act ∷ before)) (calls_from outcome act performer (act_phase before) (now_of before) (length before)) _ (from-timed script before performer outcome act) (moved-timed script before performer outcome act are all))
   timed-more script (Passed fifo passage) before are all =
-      All-append (IsTimed script (Passed fifo passage ∷ before)) (due_from (Some (told_of passage.kind passage)) passage.who (Some passage.phase) (now_of before) (caused_at (length before))) (caused_of script before)
-      (due-timed script (Passed fifo passage ∷ before) (Some (told_of passage.kind passage)) passage.who (Some passage.phase) (now_of before) (caused_at (length before)) (λ call e. call-newest (Passed fifo passage) before 0 (now_of before) refl)) (all-later script (Passed fifo passage) before (caused_of script before) all)
+      All-append (IsTimed script (Passed fifo passage ∷ before)) (due_from (Some (call_of_passage passage.kind passage)) passage.who (Some passage.phase) (now_of before) (caused_at (length before))) (scheduled_events script before)
+      (due-timed script (Passed fifo passage ∷ before) (Some (call_of_passage passage.kind passage)) passage.who (Some passage.phase) (now_of before) (caused_at (length before)) (λ call e. call-newest (Passed fifo passage) before 0 (now_of before) refl)) (all-later script (Passed fifo passage) before (scheduled_events script before) all)
   timed-more script (Locked node id) before are all =
-      All-append (IsTimed script (Locked node id ∷ before)) (due_from (Some call.Held) (who.Sequence node id) (phase_begun before id) (now_of before) (caused_at (length before))) (caused_of script before)
-      (due-timed script (Locked node id ∷ before) (Some call.Held) (who.Sequence node id) (phase_begun before id) (now_of before) (caused_at (length before)) (λ call e. call-newest (Locked node id) before 0 (now_of before) refl)) (all-later script (Locked node id) before (caused_of script before) all)
+      All-append (IsTimed script (Locked node id ∷ before)) (due_from (Some call.Held) (who.Sequence node id) (phase_begun before id) (now_of before) (caused_at (length before))) (scheduled_events script before)
+      (due-timed script (Locked node id ∷ before) (Some call.Held) (who.Sequence node id) (phase_begun before id) (now_of before) (caused_at (length before)) (λ call e. call-newest (Locked node id) before 0 (now_of before) refl)) (all-later script (Locked node id) before (scheduled_events script before) all)
   timed-more script (Granted node grant) before are all =
-      All-append (IsTimed script (Granted node grant ∷ before)) (due_from (Some call.Grant) (who.Sequence node grant.id) (phase_begun before grant.id) (now_of before) (caused_at (length before))) (caused_of script before)
-      (due-timed script (Granted node grant ∷ before) (Some call.Grant) (who.Sequence node grant.id) (phase_begun before grant.id) (now_of before) (caused_at (length before)) (λ call e. call-newest (Granted node grant) before 0 (now_of before) refl)) (all-later script (Granted node grant) before (caused_of script before) all)
+      All-append (IsTimed script (Granted node grant ∷ before)) (due_from (Some call.Grant) (who.Sequence node grant.id) (phase_begun before grant.id) (now_of before) (caused_at (length before))) (scheduled_events script before)
+      (due-timed script (Granted node grant ∷ before) (Some call.Grant) (who.Sequence node grant.id) (phase_begun before grant.id) (now_of before) (caused_at (length before)) (λ call e. call-newest (Granted node grant) before 0 (now_of before) refl)) (all-later script (Granted node grant) before (scheduled_events script before) all)
   timed-more script (End phase) before are all =
-      All-append (IsTimed script (End phase ∷ before)) (calls_numbered (now_of before) (length before) 0 (lapsed_with phase before)) (caused_of script before)
-      (numbered-timed script (End phase) before 0 (lapsed_with phase before) refl) (all-later script (End phase) before (caused_of script before) all)
+      All-append (IsTimed script (End phase ∷ before)) (calls_numbered (now_of before) (length before) 0 (lapsed_with phase before)) (scheduled_events script before)
+      (numbered-timed script (End phase) before 0 (lapsed_with phase before) refl) (all-later script (End phase) before (scheduled_events script before) all)
   timed-more script (Drained node origin) before are all = with-timed script origin.phase (Drained node origin) before (released node (objections_of script origin.phase before)) (released-is node (objections_of script origin.phase before)) (rw (same-itself origin.phase) refl) (are origin.phase) all
-  timed-more script entry before are all = all-later script entry before (caused_of script before) all
+  timed-more script entry before are all = all-later script entry before (scheduled_events script before) all
 
-  timed-of : PlacesStay → NodesGrow → (script : ScriptValue) (history : List Entry) → EachIsNext script history → All (IsTimed script history) (caused_of script history)
+  timed-of : PlacesStay → NodesGrow → (script : ScriptValue) (history : List Entry) → EachIsNext script history → All (IsTimed script history) (scheduled_events script history)
   timed-of stay grow script [] each = All-nil _
   timed-of stay grow script (entry ∷ before) each = timed-more script entry before (λ phase. (objections-are stay grow phase script (entry ∷ before) each).are_nodes) (timed-of stay grow script before each.1)
 
@@ -347,32 +314,16 @@ module _ (P : Event → Type 0) where
   first-of-all [] first all is = cc
   first-of-all (event ∷ others) first all is = let same : event ≡ first = cc in subst P same (All-head P event others all)
 
-  pub first-caused : (script : ScriptValue) (history : List Entry) (first : Event) → All P (caused_of script history) → first_due script history ≡ Some first → P first
-  first-caused script history first all is = first-of-all (in_order (due_events script history)) first (order-all (due_events script history) (All-filter (is_open (heard_of history) (ended_of history) (finished_of history)) P (caused_of script history) all)) is
-
-pub heard-alone : (hearer : Who) (call : Call) (origin : Option Origin) (acts : List Act) (next : Next) → IsPlainNext next → Allows next (Heard hearer origin call acts) → next ≡ Answer hearer call origin
-heard-alone hearer call origin acts (Exactly entry) plain allows = absurd (subst IsPlain (sym allows) plain)
-heard-alone hearer call origin acts (Answer other asked why) plain allows = let same : Heard hearer origin call acts ≡ Heard other why asked allows.0 = allows.1 in cc
-heard-alone hearer call origin acts (Need need made other act) plain (inl is) = cc
-heard-alone hearer call origin acts (Need need made other act) plain (inr declined) = cc
-heard-alone hearer call origin acts (Grant sequencer drawn chosen) plain allows = let e : Heard hearer origin call acts ≡ Granted sequencer allows.0 = allows.3 in cc
-heard-alone hearer call origin acts Nothing plain allows = absurd allows
-
-drained-alone : (node : ℕ) (origin : Origin) (next : Next) → Allows next (Drained node origin) → next ≡ Exactly (Drained node origin)
-drained-alone node origin (Exactly entry) allows = rw allows refl
-drained-alone node origin (Answer hearer call why) allows = let e : Drained node origin ≡ Heard hearer why call allows.0 = allows.1 in cc
-drained-alone node origin (Need need made performer act) (inl e) = cc
-drained-alone node origin (Need need made performer act) (inr declined) = cc
-drained-alone node origin (Grant sequencer drawn chosen) allows = let e : Drained node origin ≡ Granted sequencer allows.0 = allows.3 in cc
-drained-alone node origin Nothing allows = absurd allows
+  pub first-caused : (script : ScriptValue) (history : List Entry) (first : Event) → All P (scheduled_events script history) → first_due script history ≡ Some first → P first
+  first-caused script history first all is = first-of-all (in_order (due_events script history)) first (order-all (due_events script history) (All-filter (is_open (delivered_causes history) (ended_of history) (finished_of history)) P (scheduled_events script history) all)) is
 
 call-timed : (script : ScriptValue) (history : List Entry) (cause : Cause) (call : Call) (time : ℕ) (event : Event) → IsTimed script history event → event.notice ≡ Some call → event.cause ≡ cause → event.time ≡ time → IsCallTime history cause time
 call-timed script history cause call time event t notice at now = rw (← at, ← now) (subst (IsTimedBy script history event.phase event.cause event.time event.owner) notice t)
 
-drain-timed : (script : ScriptValue) (history : List Entry) (node : ℕ) (cause : Cause) (time : ℕ) (event : Event) (owner : Owner) → IsTimed script history event → event.owner ≡ owner → event.notice ≡ None → event.cause ≡ cause → event.time ≡ time → node_of (who_of owner) ≡ node → IsDrainTime script history event.phase node cause time
-drain-timed script history node cause time event owner t owner_is notice at now stands = by owner (subst (λ (o : Owner). IsTimedBy script history event.phase event.cause event.time o None) owner_is (subst (IsTimedBy script history event.phase event.cause event.time event.owner) notice t)) stands
+drain-timed : (script : ScriptValue) (history : List Entry) (node : ℕ) (cause : Cause) (time : ℕ) (event : Event) (owner : EventTarget) → IsTimed script history event → event.owner ≡ owner → event.notice ≡ None → event.cause ≡ cause → event.time ≡ time → node_of (who_of owner) ≡ node → IsDrainTime script history event.phase node cause time
+drain-timed script history node cause time event owner t owner_is notice at now stands = by owner (subst (λ (o : EventTarget). IsTimedBy script history event.phase event.cause event.time o None) owner_is (subst (IsTimedBy script history event.phase event.cause event.time event.owner) notice t)) stands
   where
-    by : (one : Owner) → IsTimedBy script history event.phase event.cause event.time one None → node_of (who_of one) ≡ node → IsDrainTime script history event.phase node cause time
+    by : (one : EventTarget) → IsTimedBy script history event.phase event.cause event.time one None → node_of (who_of one) ≡ node → IsDrainTime script history event.phase node cause time
     by (Object who) t stands = absurd t
     by (Drain other of) t stands = rw (← at, ← now, ← stands) t
 
@@ -382,13 +333,13 @@ pub call-times :
     → IsCallTime before origin.cause (now_of before)
 call-times goes held_are stay grow script later before hearer call origin acts legal =
     let each = older-each script later (Heard hearer (Some origin) call acts ∷ before) legal.each in
-    let due = due_calls_go_in_order script before hearer call origin (heard-alone hearer call (Some origin) acts (next_of script before) (plain-next script before) each.0) in
+    let due = comes script before (Heard hearer (Some origin) call acts) each.0 in
     call-timed script before origin.cause call (now_of before) due.event (first-caused (IsTimed script before) script before due.event (timed-of goes held_are stay grow script before each.1) due.first) due.notice_is (ap (λ (one : Origin). one.cause) due.origin_is) due.time
 
 pub wakes_on_time : (script : ScriptValue) (later before : List Entry) (hearer : Who) (tag : ℕ) (origin : Origin) (acts : List Act) → IsLegal script (later ++ Heard hearer (Some origin) (call.Wake tag) acts ∷ before) → IsWakeTime before hearer tag origin.cause (now_of before)
 wakes_on_time script later before hearer tag origin acts legal =
     let each = older-each script later (Heard hearer (Some origin) (call.Wake tag) acts ∷ before) legal.each in
-    let due = due_calls_go_in_order script before hearer (call.Wake tag) origin (heard-alone hearer (call.Wake tag) (Some origin) acts (next_of script before) (plain-next script before) each.0) in
+    let due = comes script before (Heard hearer (Some origin) (call.Wake tag) acts) each.0 in
     let cause_is : due.event.cause ≡ origin.cause = ap (λ (one : Origin). one.cause) due.origin_is in
     rw (← cause_is, ← due.time) (first-caused (IsWoken before) script before due.event (woken-of script before) due.first hearer tag due.hearer_is due.notice_is)
 
@@ -398,7 +349,7 @@ pub drains_on_time :
     → IsDrainTime script before origin.phase node origin.cause (now_of before)
 drains_on_time goes held_are stay grow script later before node origin legal =
     let each = older-each script later (Drained node origin ∷ before) legal.each in
-    let d = drains_go_in_order script before node origin (drained-alone node origin (next_of script before) each.0) in
+    let d = comes script before (Drained node origin) each.0 in
     let due = d.due in
     let cause_is : due.event.cause ≡ origin.cause = ap (λ (one : Origin). one.cause) due.origin_is in
     let phase_is : due.event.phase ≡ origin.phase = ap (λ (one : Origin). one.phase) due.origin_is in

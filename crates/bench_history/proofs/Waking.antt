@@ -1,48 +1,11 @@
 -- Who is called again after a wait.
-use Rattle.std.proofs.Common.{◌≡◌, ◌+◌, ℕ, suc, Bool, true, false, not, List, [], ◌∷◌, ◌++◌, length, Option, Some, None, refl, ap, if◌then◌else◌, option_map, option_and_then}
-use Rattle.bench_script.specs.Scripts.{ScriptValue}
-use Rattle.std.specs.List.{All, flat_map, filter_map, cons_option}
-use Rattle.std.proofs.lemmas.List.Elements.{All-nil, All-cons, All-append, All-filter, All-weaker, All-push, All-head, All-tail}
-use Rattle.uvm_phase.specs.declared.phases.Phase.{Phase}
-use Rattle.uvm_phase.specs.declared.agendas.Cause.{Cause}
+use Rattle.bench_history.proofs.Common.{◌≡◌, ◌+◌, ℕ, suc, Bool, true, false, not, List, [], ◌∷◌, ◌++◌, length, Option, Some, None, refl, ap, if◌then◌else◌, option_map, option_and_then, ScriptValue, cons_option, All-nil, All-cons, All-append, All-filter, All-weaker, All-push, All-head, All-tail, Phase, Cause, drains_begun, drains_ended, SeqStep, PreStart, Body, PostStart, How, grant_of, hand_of, is_try, loses_try, numbered, MoveKind, Item, under_at, node_of, Who, Call, Act, Ask, EndStep, Get, TryPut, TryTake, ItemDone, Send, Wait, Write, Passage, Outcome, Done, Started, Value, Stored, Taken, Waits, Finished, Entry, Did, Drained, Granted, Locked, Passed, End, DriverPort, DueCall, EventTarget, Object, Drain, Event, is_drain_of, who_of, act_phase, nodes_of, now_of, objections_of, imps_below, StartRecord, starts_of, next_step, phase_begun, sequence_in, is_live, driver_requester, driver_state, sequencer_below, ends_ask, calls_from, calls_numbered, calls_caused, caused_at, scheduled_events, done_by, drain_from, due_from, event_in, finished_by, moves_drains, calls_of_done, calls_of_finish, call_in, calls_of_item, call_of_passage, calls_of_send, calls_of_step, with_drains_of, written_to, lapsed_with, lapsed_at, IsWakeTime, path_order, All, flat_map, filter_map}
 use Rattle.uvm_objection.specs.declared.objections.Due as drain
-use Rattle.uvm_objection.specs.Totals.{drains_begun, drains_ended}
-use Rattle.uvm_sequences.specs.declared.starts.SeqStep.{SeqStep}
-use Rattle.uvm_sequences.specs.declared.starts.SeqStep.TheVariants.{PreStart, Body, PostStart}
-use Rattle.uvm_sequencer.specs.declared.drivers.How.{How}
 use Rattle.uvm_sequencer.specs.declared.drivers.How.TheVariants as how
-use Rattle.uvm_sequencer.specs.Drivers.{grant_of, hand_of, is_try, loses_try}
-use Rattle.uvm_sequences.specs.Sequences.{numbered}
-use Rattle.uvm_tlm.specs.declared.fifos.MoveKind.{MoveKind}
 use Rattle.uvm_tlm.specs.declared.fifos.MoveKind.TheVariants as move
-use Rattle.uvm_tlm.specs.declared.items.Item.{Item}
 use Rattle.uvm_tree.specs.Nodes as tree
-use Rattle.uvm_tree.specs.Nodes.{under_at}
-use Rattle.uvm_acts.specs.Acts.{node_of}
-use Rattle.uvm_acts.specs.declared.acts.Who.{Who}
 use Rattle.uvm_acts.specs.declared.acts.Who.TheVariants as who
-use Rattle.uvm_acts.specs.declared.acts.Call.{Call}
 use Rattle.uvm_acts.specs.declared.acts.Call.TheVariants as call
-use Rattle.uvm_acts.specs.declared.acts.Act.{Act}
-use Rattle.uvm_acts.specs.declared.acts.Act.TheVariants.{Ask, EndStep, Get, TryPut, TryTake, ItemDone, Send, Wait, Write}
-use Rattle.uvm_object.specs.declared.entries.Passage.{Passage}
-use Rattle.uvm_object.specs.declared.entries.Outcome.{Outcome}
-use Rattle.uvm_object.specs.declared.entries.Outcome.TheVariants.{Done, Started, Value, Stored, Taken, Waits, Finished}
-use Rattle.uvm_object.specs.declared.entries.Entry.{Entry}
-use Rattle.uvm_object.specs.declared.entries.Entry.TheVariants.{Did, Drained, Granted, Locked, Passed, End}
-use Rattle.bench_history.specs.declared.askers.DriverPort.{DriverPort}
-use Rattle.bench_history.specs.declared.owners.Told.{Told}
-use Rattle.bench_history.specs.declared.owners.Owner.{Owner}
-use Rattle.bench_history.specs.declared.owners.Owner.TheVariants.{Object, Drain}
-use Rattle.bench_history.specs.Owners.{Event, is_drain_of, who_of}
-use Rattle.bench_history.specs.History.{act_phase, nodes_of, now_of}
-use Rattle.bench_history.specs.Objections.{objections_of}
-use Rattle.bench_history.specs.Ports.{imps_below}
-use Rattle.bench_history.specs.Sequences.{Beginning, begun_of, next_step, phase_begun, sequence_in, is_live}
-use Rattle.bench_history.specs.Arbitration.{driver_asker, driver_state, sequencer_below, ends_ask}
-use Rattle.bench_history.specs.Dues.{calls_from, calls_numbered, calls_told, caused_at, caused_of, done_by, drain_from, due_from, event_in, finished_by, moves_drains, told_done, told_finished, told_in, told_item, told_of, told_sent, told_step, with_drains_of, written_to, lapsed_with, lapsed_at}
-use Rattle.bench_history.specs.LegalLogs.{IsWakeTime}
-use Rattle.uvm_tree.specs.Sorted.{path_order}
 
 -- a call is one after a wait
 abbrev is_wake : Call → Bool
@@ -74,7 +37,7 @@ all-later new history events all = All-weaker (IsWoken history) (IsWoken (new �
         let w = was hearer tag owner notice in
         record { ticks = w.ticks; before = w.before; at = record { later = new ∷ w.at.later; splits = ap (λ log. new ∷ log) w.at.splits; place = w.at.place }; time_is = w.time_is }
 
-event-plain : (phase : Option Phase) (time : ℕ) (cause : Cause) (owner : Owner) (notice : Option Call) → wakes_by notice ≡ false → All IsPlainEvent (event_in phase time cause owner notice)
+event-plain : (phase : Option Phase) (time : ℕ) (cause : Cause) (owner : EventTarget) (notice : Option Call) → wakes_by notice ≡ false → All IsPlainEvent (event_in phase time cause owner notice)
 event-plain None time cause owner notice plain = All-nil IsPlainEvent
 event-plain (Some phase) time cause owner notice plain = All-cons IsPlainEvent _ [] plain (All-nil IsPlainEvent)
 
@@ -83,77 +46,77 @@ due-plain None performer phase time cause plain = All-nil IsPlainEvent
 due-plain (Some call) performer phase time cause plain = event-plain phase time cause (Object performer) (Some call) plain
 
 -- nothing that an act tells others is such a call
-abbrev IsPlainCall : Told → Type 0
+abbrev IsPlainCall : DueCall → Type 0
 IsPlainCall told = is_wake told.call ≡ false
 
-numbered-plain : (time place number : ℕ) (calls : List Told) → All IsPlainCall calls → All IsPlainEvent (calls_numbered time place number calls)
+numbered-plain : (time place number : ℕ) (calls : List DueCall) → All IsPlainCall calls → All IsPlainEvent (calls_numbered time place number calls)
 numbered-plain time place number [] all = All-nil IsPlainEvent
 numbered-plain time place number (told ∷ calls) all =
     All-append IsPlainEvent (calls_numbered time place (suc number) calls) _ (numbered-plain time place (suc number) calls (All-tail IsPlainCall told calls all))
     (event-plain told.phase time (record { place = place; number = number }) (Object told.who) (Some told.call) (All-head IsPlainCall told calls all))
 
-one-call : (phase : Option Phase) (who : Who) (call : Call) → is_wake call ≡ false → All IsPlainCall (told_in phase who call ∷ [])
-one-call phase who call plain = All-cons IsPlainCall (told_in phase who call) [] plain (All-nil IsPlainCall)
+one-call : (phase : Option Phase) (who : Who) (call : Call) → is_wake call ≡ false → All IsPlainCall (call_in phase who call ∷ [])
+one-call phase who call plain = All-cons IsPlainCall (call_in phase who call) [] plain (All-nil IsPlainCall)
 
 written-plain : (phase : Option Phase) (nodes : List tree.Node) (item : Item) (imps : List ℕ) → All IsPlainCall (filter_map (written_to phase nodes item) imps)
 written-plain phase nodes item [] = All-nil IsPlainCall
 written-plain phase nodes item (imp ∷ imps) = by (under_at nodes imp) (written-plain phase nodes item imps)
   where
-    by : (under : Option (ℕ × List ℕ)) → All IsPlainCall (filter_map (written_to phase nodes item) imps) → All IsPlainCall (cons_option (option_map {U = Told} (λ (under : ℕ × List ℕ). told_in phase (who.Node under.0) (call.Written under.1 item)) under) (filter_map (written_to phase nodes item) imps))
+    by : (under : Option (ℕ × List ℕ)) → All IsPlainCall (filter_map (written_to phase nodes item) imps) → All IsPlainCall (cons_option (option_map {U = DueCall} (λ (under : ℕ × List ℕ). call_in phase (who.Node under.0) (call.Written under.1 item)) under) (filter_map (written_to phase nodes item) imps))
     by None rest = rest
     by (Some under) rest = All-cons IsPlainCall _ _ refl rest
 
-step-plain : (phase : Option Phase) (performer : Who) (step : Option SeqStep) → All IsPlainCall (told_step phase performer step)
+step-plain : (phase : Option Phase) (performer : Who) (step : Option SeqStep) → All IsPlainCall (calls_of_step phase performer step)
 step-plain phase performer None = All-nil IsPlainCall
 step-plain phase performer (Some PreStart) = one-call phase performer _ refl
 step-plain phase performer (Some Body) = one-call phase performer _ refl
 step-plain phase performer (Some PostStart) = one-call phase performer _ refl
 
-item-plain : (asker : Option DriverPort) (item : Option Item) → All IsPlainCall (told_item asker item)
+item-plain : (requester : Option DriverPort) (item : Option Item) → All IsPlainCall (calls_of_item requester item)
 item-plain None item = All-nil IsPlainCall
-item-plain (Some asker) item = one-call asker.phase asker.who _ refl
+item-plain (Some requester) item = one-call requester.phase requester.who _ refl
 
-sent-plain : (phase : Option Phase) (performer : Who) (asker : Option DriverPort) (item : Item) (way : Option How) → All IsPlainCall (told_sent phase performer asker item way)
-sent-plain phase performer asker item None = All-nil IsPlainCall
-sent-plain phase performer asker item (Some how.Get) = All-push IsPlainCall (told_item asker (Some item)) (told_in phase performer (call.ItemDone None)) (item-plain asker (Some item)) refl
-sent-plain phase performer asker item (Some how.Next) = item-plain asker (Some item)
-sent-plain phase performer asker item (Some how.Try) = item-plain asker (Some item)
+sent-plain : (phase : Option Phase) (performer : Who) (requester : Option DriverPort) (item : Item) (way : Option How) → All IsPlainCall (calls_of_send phase performer requester item way)
+sent-plain phase performer requester item None = All-nil IsPlainCall
+sent-plain phase performer requester item (Some how.Get) = All-push IsPlainCall (calls_of_item requester (Some item)) (call_in phase performer (call.ItemDone None)) (item-plain requester (Some item)) refl
+sent-plain phase performer requester item (Some how.Next) = item-plain requester (Some item)
+sent-plain phase performer requester item (Some how.Try) = item-plain requester (Some item)
 
 done-plain : (before : List Entry) (reached : Option ℕ) (response : Option Item) → All IsPlainCall (done_by before reached response)
 done-plain before None response = All-nil IsPlainCall
 done-plain before (Some node) response = by (hand_of (driver_state before node))
   where
-    by : (hand : Option ℕ) → All IsPlainCall (told_done (phase_begun before) response node hand)
+    by : (hand : Option ℕ) → All IsPlainCall (calls_of_done (phase_begun before) response node hand)
     by None = All-nil IsPlainCall
     by (Some id) = one-call (phase_begun before id) (who.Sequence node id) _ refl
 
 finished-plain : (before : List Entry) (id : Option ℕ) → All IsPlainCall (finished_by before id)
 finished-plain before None = All-nil IsPlainCall
-finished-plain before (Some id) = by (numbered (begun_of before) id)
+finished-plain before (Some id) = by (numbered (starts_of before) id)
   where
-    by : (beginning : Option Beginning) → All IsPlainCall (told_finished id beginning)
+    by : (start_record : Option StartRecord) → All IsPlainCall (calls_of_finish id start_record)
     by None = All-nil IsPlainCall
-    by (Some beginning) = one-call beginning.phase beginning.starter _ refl
+    by (Some start_record) = one-call start_record.phase start_record.starter _ refl
 
-lapsed-plain : (lapses : Bool) (asker : Option DriverPort) → All IsPlainCall (if lapses then told_item asker None else [])
-lapsed-plain true asker = item-plain asker None
-lapsed-plain false asker = All-nil IsPlainCall
+lapsed-plain : (lapses : Bool) (requester : Option DriverPort) → All IsPlainCall (if lapses then calls_of_item requester None else [])
+lapsed-plain true requester = item-plain requester None
+lapsed-plain false requester = All-nil IsPlainCall
 
 each-lapsed : (phase : Phase) (before : List Entry) (nodes : List ℕ) → All IsPlainCall (flat_map (lapsed_at phase before) nodes)
 each-lapsed phase before [] = All-nil IsPlainCall
 each-lapsed phase before (node ∷ nodes) =
     All-append IsPlainCall (lapsed_at phase before node) (flat_map (lapsed_at phase before) nodes)
-    (lapsed-plain (loses_try (ends_ask phase (driver_asker before node)) (is_live (End phase ∷ before)) (driver_state before node)) (driver_asker before node)) (each-lapsed phase before nodes)
+    (lapsed-plain (loses_try (ends_ask phase (driver_requester before node)) (is_live (End phase ∷ before)) (driver_state before node)) (driver_requester before node)) (each-lapsed phase before nodes)
 
-told-plain : (before : List Entry) (performer : Who) (outcome : Outcome) (act : Act) → All IsPlainCall (calls_told before performer outcome act)
+told-plain : (before : List Entry) (performer : Who) (outcome : Outcome) (act : Act) → All IsPlainCall (calls_caused before performer outcome act)
 told-plain before performer Done (Write port item) = written-plain (act_phase before) (nodes_of before) item (imps_below before performer port)
 told-plain before performer Done EndStep = step-plain (act_phase before) performer (next_step before performer)
-told-plain before performer Done (Send item) = sent-plain (act_phase before) performer (driver_asker before (node_of performer)) item (option_and_then (λ id. grant_of id (driver_state before (node_of performer))) (sequence_in performer))
+told-plain before performer Done (Send item) = sent-plain (act_phase before) performer (driver_requester before (node_of performer)) item (option_and_then (λ id. grant_of id (driver_state before (node_of performer))) (sequence_in performer))
 told-plain before performer Done (ItemDone port response) = done-plain before (sequencer_below before performer port) response
 told-plain before performer (Started id) act = one-call (act_phase before) _ _ refl
 told-plain before performer Finished act =
     All-append IsPlainCall (finished_by before (sequence_in performer)) _ (finished-plain before (sequence_in performer))
-    (lapsed-plain (is_try (option_and_then (λ id. grant_of id (driver_state before (node_of performer))) (sequence_in performer))) (driver_asker before (node_of performer)))
+    (lapsed-plain (is_try (option_and_then (λ id. grant_of id (driver_state before (node_of performer))) (sequence_in performer))) (driver_requester before (node_of performer)))
 told-plain before performer outcome act = All-nil IsPlainCall
 
 -- and what it tells its performer is one if it is a wait
@@ -180,44 +143,44 @@ drains-plain : (phase : Phase) (cause : Cause) (begun : List drain.Due) → All 
 drains-plain phase cause [] = All-nil IsPlainEvent
 drains-plain phase cause (first ∷ begun) = All-append IsPlainEvent (drain_from phase cause first) (flat_map (drain_from phase cause) begun) (event-plain (Some phase) first.at cause (Drain first.node phase) None refl) (drains-plain phase cause begun)
 
-with-woken : (script : ScriptValue) (phase : Option Phase) (entry : Entry) (before : List Entry) → All (IsWoken before) (caused_of script before) → All (IsWoken (entry ∷ before)) (with_drains_of script phase entry before (caused_of script before))
-with-woken script None entry before all = all-later entry before (caused_of script before) all
+with-woken : (script : ScriptValue) (phase : Option Phase) (entry : Entry) (before : List Entry) → All (IsWoken before) (scheduled_events script before) → All (IsWoken (entry ∷ before)) (with_drains_of script phase entry before (scheduled_events script before))
+with-woken script None entry before all = all-later entry before (scheduled_events script before) all
 with-woken script (Some phase) entry before all =
     let earlier = objections_of script phase before in
     let nodes = objections_of script phase (entry ∷ before) in
     All-append (IsWoken (entry ∷ before)) (flat_map (drain_from phase (caused_at (length before))) (drains_begun earlier nodes)) _
     (all-plain (entry ∷ before) _ (drains-plain phase (caused_at (length before)) (drains_begun earlier nodes)))
-    (All-filter (λ (event : Event). not (is_drain_of phase (drains_ended earlier nodes) event.owner)) (IsWoken (entry ∷ before)) (caused_of script before) (all-later entry before (caused_of script before) all))
+    (All-filter (λ (event : Event). not (is_drain_of phase (drains_ended earlier nodes) event.owner)) (IsWoken (entry ∷ before)) (scheduled_events script before) (all-later entry before (scheduled_events script before) all))
 
-moved-woken : (script : ScriptValue) (phase : Option Phase) (entry : Entry) (before : List Entry) (moves : Bool) → All (IsWoken before) (caused_of script before) → All (IsWoken (entry ∷ before)) (if moves then with_drains_of script phase entry before (caused_of script before) else caused_of script before)
+moved-woken : (script : ScriptValue) (phase : Option Phase) (entry : Entry) (before : List Entry) (moves : Bool) → All (IsWoken before) (scheduled_events script before) → All (IsWoken (entry ∷ before)) (if moves then with_drains_of script phase entry before (scheduled_events script before) else scheduled_events script before)
 moved-woken script phase entry before true all = with-woken script phase entry before all
-moved-woken script phase entry before false all = all-later entry before (caused_of script before) all
+moved-woken script phase entry before false all = all-later entry before (scheduled_events script before) all
 
-passed-plain : (kind : MoveKind) (passage : Passage) → is_wake (told_of kind passage) ≡ false
+passed-plain : (kind : MoveKind) (passage : Passage) → is_wake (call_of_passage kind passage) ≡ false
 passed-plain move.Put passage = refl
 passed-plain move.Take passage = refl
 passed-plain move.Peek passage = refl
 
-one-woken : (script : ScriptValue) (entry : Entry) (before : List Entry) (phase : Option Phase) (told : Call) (hearer : Who) → is_wake told ≡ false → All (IsWoken before) (caused_of script before) → All (IsWoken (entry ∷ before)) (due_from (Some told) hearer phase (now_of before) (caused_at (length before)) ++ caused_of script before)
+one-woken : (script : ScriptValue) (entry : Entry) (before : List Entry) (phase : Option Phase) (told : Call) (hearer : Who) → is_wake told ≡ false → All (IsWoken before) (scheduled_events script before) → All (IsWoken (entry ∷ before)) (due_from (Some told) hearer phase (now_of before) (caused_at (length before)) ++ scheduled_events script before)
 one-woken script entry before phase told hearer plain all =
-    All-append (IsWoken (entry ∷ before)) (due_from (Some told) hearer phase (now_of before) (caused_at (length before))) (caused_of script before)
-    (all-plain (entry ∷ before) _ (due-plain (Some told) hearer phase (now_of before) (caused_at (length before)) plain)) (all-later entry before (caused_of script before) all)
+    All-append (IsWoken (entry ∷ before)) (due_from (Some told) hearer phase (now_of before) (caused_at (length before))) (scheduled_events script before)
+    (all-plain (entry ∷ before) _ (due-plain (Some told) hearer phase (now_of before) (caused_at (length before)) plain)) (all-later entry before (scheduled_events script before) all)
 
-woken-more : (script : ScriptValue) (entry : Entry) (before : List Entry) → All (IsWoken before) (caused_of script before) → All (IsWoken (entry ∷ before)) (caused_of script (entry ∷ before))
+woken-more : (script : ScriptValue) (entry : Entry) (before : List Entry) → All (IsWoken before) (scheduled_events script before) → All (IsWoken (entry ∷ before)) (scheduled_events script (entry ∷ before))
 woken-more script (Did performer outcome act) before all =
     let entry = Did performer outcome act in
-    All-append (IsWoken (entry ∷ before)) (calls_numbered (now_of before) (length before) 0 (calls_told before performer outcome act)) _
-    (all-plain (entry ∷ before) _ (numbered-plain (now_of before) (length before) 0 (calls_told before performer outcome act) (told-plain before performer outcome act)))
+    All-append (IsWoken (entry ∷ before)) (calls_numbered (now_of before) (length before) 0 (calls_caused before performer outcome act)) _
+    (all-plain (entry ∷ before) _ (numbered-plain (now_of before) (length before) 0 (calls_caused before performer outcome act) (told-plain before performer outcome act)))
     (All-append (IsWoken (entry ∷ before)) (calls_from outcome act performer (act_phase before) (now_of before) (length before)) _ (from-woken before performer outcome act) (moved-woken script (act_phase before) entry before (moves_drains outcome act) all))
-woken-more script (Passed fifo passage) before all = one-woken script (Passed fifo passage) before (Some passage.phase) (told_of passage.kind passage) passage.who (passed-plain passage.kind passage) all
+woken-more script (Passed fifo passage) before all = one-woken script (Passed fifo passage) before (Some passage.phase) (call_of_passage passage.kind passage) passage.who (passed-plain passage.kind passage) all
 woken-more script (Locked node id) before all = one-woken script (Locked node id) before (phase_begun before id) call.Held (who.Sequence node id) refl all
 woken-more script (Granted node grant) before all = one-woken script (Granted node grant) before (phase_begun before grant.id) call.Grant (who.Sequence node grant.id) refl all
 woken-more script (End phase) before all =
-    All-append (IsWoken (End phase ∷ before)) (calls_numbered (now_of before) (length before) 0 (lapsed_with phase before)) (caused_of script before)
-    (all-plain (End phase ∷ before) _ (numbered-plain (now_of before) (length before) 0 (lapsed_with phase before) (each-lapsed phase before (path_order (nodes_of before))))) (all-later (End phase) before (caused_of script before) all)
+    All-append (IsWoken (End phase ∷ before)) (calls_numbered (now_of before) (length before) 0 (lapsed_with phase before)) (scheduled_events script before)
+    (all-plain (End phase ∷ before) _ (numbered-plain (now_of before) (length before) 0 (lapsed_with phase before) (each-lapsed phase before (path_order (nodes_of before))))) (all-later (End phase) before (scheduled_events script before) all)
 woken-more script (Drained node origin) before all = with-woken script (Some origin.phase) (Drained node origin) before all
-woken-more script entry before all = all-later entry before (caused_of script before) all
+woken-more script entry before all = all-later entry before (scheduled_events script before) all
 
-pub woken-of : (script : ScriptValue) (history : List Entry) → All (IsWoken history) (caused_of script history)
+pub woken-of : (script : ScriptValue) (history : List Entry) → All (IsWoken history) (scheduled_events script history)
 woken-of script [] = All-nil _
 woken-of script (entry ∷ before) = woken-more script entry before (woken-of script before)

@@ -1,37 +1,7 @@
 -- Once connect has nothing left, nothing is connected any more.
-use Rattle.std.proofs.Common.{◌≡◌, ℕ, Bool, true, false, ◌&&◌, ◌||◌, List, [], ◌∷◌, reverse, take, Option, Some, None, is_none, refl, ap, ◌∙◌, subst, ◌==◌, nat_lt, filter, sym, arith}
-use Rattle.uvm_phase.specs.Laws.{OrderKeepsAll}
-use Rattle.uvm_sequencer.specs.Laws.{LockExcludes}
-use Rattle.uvm_acts.specs.declared.acts.Call.{Call}
-use Rattle.std.proofs.lemmas.Bool.Decides.{nat_tests}
-use Rattle.bench_history.specs.Objections.{is_kept}
+use Rattle.bench_history.proofs.Common.{◌≡◌, ℕ, Bool, true, false, ◌&&◌, ◌||◌, List, [], ◌∷◌, reverse, take, Option, Some, None, is_none, refl, ap, ◌∙◌, subst, ◌==◌, nat_lt, filter, sym, arith, OrderKeepsAll, Call, nat_tests, is_kept, EventTarget, is_live, next_locked, next_served, list_any, Phase, Build, EndOfElaboration, StartOfSimulation, Run, Extract, Check, Report, Final, PreReset, Reset, PostReset, PreConfigure, Configure, PostConfigure, PreMain, Main, PostMain, PreShutdown, Shutdown, PostShutdown, is_task, same_phase, phase_number, Act, Fatal, Reason, Passage, Entry, End, Note, Over, ScriptValue, RunStage, Before, During, After, Ended, Event, act_phase, stage_of, remaining_acts, head_of, next_call, is_built, ends_build, ended_of, in_task, in_progress, reason_of, due_now, is_past_connect, ends_connect, next_unsound, next_passed, Next, Exactly, next_of, Allows, IsNext, EachIsNext, WiringStays, ConnectFollowsBuild, TasksFollowConnect, is_connect_last, is_in_connect, has_nothing_left, next_number, ending_order, is_run, TaskPhasesFollowConnect, LockExcludes, Connect}
 use Rattle.bench_history.proofs.Living.{Stands, Runs, HasEnded}
 use Rattle.bench_history.proofs.Called.{acting-stands}
-use Rattle.bench_history.specs.declared.owners.Owner.{Owner}
-use Rattle.bench_history.specs.Sequences.{is_live}
-use Rattle.bench_history.specs.Arbitration.{next_locked, next_served}
-use Rattle.std.specs.List.{list_any}
-use Rattle.uvm_phase.specs.declared.phases.Phase.{Phase}
-use Rattle.uvm_phase.specs.declared.phases.Phase.TheVariants.{Build, Connect, EndOfElaboration, StartOfSimulation, Run, Extract, Check, Report, Final, PreReset, Reset, PostReset, PreConfigure, Configure, PostConfigure, PreMain, Main, PostMain, PreShutdown, Shutdown, PostShutdown}
-use Rattle.uvm_phase.specs.Phases.{is_task, same_phase, phase_number}
-use Rattle.uvm_acts.specs.declared.acts.Act.{Act}
-use Rattle.uvm_object.specs.declared.fatals.Fatal.{Fatal}
-use Rattle.uvm_object.specs.declared.entries.Reason.{Reason}
-use Rattle.uvm_object.specs.declared.entries.Passage.{Passage}
-use Rattle.uvm_object.specs.declared.entries.Entry.{Entry}
-use Rattle.uvm_object.specs.declared.entries.Entry.TheVariants.{End, Note, Over}
-use Rattle.bench_script.specs.Scripts.{ScriptValue}
-use Rattle.bench_history.specs.declared.stages.Stage.{Stage}
-use Rattle.bench_history.specs.declared.stages.Stage.TheVariants.{Before, During, After, Ended}
-use Rattle.bench_history.specs.Owners.{Event}
-use Rattle.bench_history.specs.History.{act_phase, stage_of, left_of, head_of, next_call, is_built, ends_build, ended_of, in_task, in_progress}
-use Rattle.bench_history.specs.Reports.{reason_of}
-use Rattle.bench_history.specs.Dues.{due_now}
-use Rattle.bench_history.specs.Wires.{is_past_connect, ends_connect, next_unsound}
-use Rattle.bench_history.specs.Passing.{next_passed}
-use Rattle.bench_history.specs.Cases.{Next, Exactly}
-use Rattle.bench_history.specs.Next.{next_of, Allows, IsNext, EachIsNext}
-use Rattle.bench_history.specs.Laws.{WiringStays, ConnectFollowsBuild, TasksFollowConnect, is_connect_last, is_in_connect, has_nothing_left, next_number, ending_order, is_run, TaskPhasesFollowConnect}
 use Rattle.bench_history.proofs.Ended.{nothing-comes}
 use Rattle.bench_history.proofs.Living.{Stands, Runs, HasEnded}
 use Rattle.bench_history.proofs.Called.{acting-stands}
@@ -42,14 +12,14 @@ record IsIdle (script : ScriptValue) (history : List Entry) : Type 0 where
   none_led : next_locked history ≡ None
   none_served : next_served history ≡ None
   none_passes : next_passed history ≡ None
-  left : left_of script history ≡ []
+  left : remaining_acts script history ≡ []
   none_due : due_now script history ≡ None
   no_call : next_call Connect history ≡ None
 
 module _ (script : ScriptValue) (history : List Entry) where
   idle-passed :
       (passed : Option (ℕ × Passage)) (left : List Act) (due : Option Event) (call : Option ℕ) → next_locked history ≡ None → next_served history ≡ None
-      → next_passed history ≡ passed → left_of script history ≡ left → due_now script history ≡ due → next_call Connect history ≡ call
+      → next_passed history ≡ passed → remaining_acts script history ≡ left → due_now script history ≡ due → next_call Connect history ≡ call
       → is_none passed && is_none (head_of left) && is_none due && is_none call ≡ true → IsIdle script history
   idle-passed None [] None None led served passes left due call e = record { none_led = led; none_served = served; none_passes = passes; left = left; none_due = due; no_call = call }
   idle-passed None [] None (Some node) led served passes left due call e = cc
@@ -60,7 +30,7 @@ module _ (script : ScriptValue) (history : List Entry) where
 
   idle-of :
       (led : Option (ℕ × ℕ)) (served : Option (ℕ × Bool)) (passed : Option (ℕ × Passage)) (left : List Act) (due : Option Event) (call : Option ℕ) → next_locked history ≡ led → next_served history ≡ served
-      → next_passed history ≡ passed → left_of script history ≡ left → due_now script history ≡ due → next_call Connect history ≡ call
+      → next_passed history ≡ passed → remaining_acts script history ≡ left → due_now script history ≡ due → next_call Connect history ≡ call
       → is_none led && is_none served && is_none passed && is_none (head_of left) && is_none due && is_none call ≡ true → IsIdle script history
   idle-of None None passed left due call led served passes is now turn e = idle-passed passed left due call led served passes is now turn e
   idle-of (Some one) None passed left due call led served passes is now turn e = cc
@@ -110,11 +80,11 @@ both : (a b : Bool) → a && b ≡ true → (a ≡ true) × (b ≡ true)
 both true b e = (refl, e)
 both false b e = cc
 
-quiet-more : (script : ScriptValue) (history : List Entry) (entry : Entry) (stage : Stage) → stage_of history ≡ stage → is_connect_last stage ≡ true → has_nothing_left script history ≡ true → IsNext script history entry → is_past_connect (entry ∷ history) ≡ false
+quiet-more : (script : ScriptValue) (history : List Entry) (entry : Entry) (stage : RunStage) → stage_of history ≡ stage → is_connect_last stage ≡ true → has_nothing_left script history ≡ true → IsNext script history entry → is_past_connect (entry ∷ history) ≡ false
     → is_connect_last (stage_of (entry ∷ history)) && has_nothing_left script (entry ∷ history) ≡ true
 quiet-more script history entry Ended is last nothing next past = absurd (subst (λ (comes : Next). Allows comes entry) (nothing-comes script history is) next)
 quiet-more script history entry (During Connect) is last nothing next past =
-    let idle = idle-of script history (next_locked history) (next_served history) (next_passed history) (left_of script history) (due_now script history) (next_call Connect history) refl refl refl refl refl refl nothing in
+    let idle = idle-of script history (next_locked history) (next_served history) (next_passed history) (remaining_acts script history) (due_now script history) (next_call Connect history) refl refl refl refl refl refl nothing in
     let comes = idle-next script history is idle (reason_of script history) refl (next_unsound history) refl in
     let entry_is : entry ≡ end_or (reason_of script history) (next_unsound history) = subst (λ (comes : Next). Allows comes entry) comes next in
     let past' : is_past_connect (end_or (reason_of script history) (next_unsound history) ∷ history) ≡ false = rw (← entry_is) past in
@@ -140,7 +110,7 @@ built-ended (End phase ∷ history) = ap (λ b. ends_build (End phase) || b) (bu
 built-ended (entry ∷ history) = built-ended history
 
 -- and so it is where connect runs, or has just ended
-build-first : (runtime : Bool) (stage : Stage) (ended : List Phase) → is_in_connect stage ≡ true → ((stage ≡ Ended → ⊥) → ended ≡ reverse (filter (is_run runtime) (take (next_number stage) ending_order))) → list_any (λ phase. ends_build (End phase)) ended ≡ true
+build-first : (runtime : Bool) (stage : RunStage) (ended : List Phase) → is_in_connect stage ≡ true → ((stage ≡ Ended → ⊥) → ended ≡ reverse (filter (is_run runtime) (take (next_number stage) ending_order))) → list_any (λ phase. ends_build (End phase)) ended ≡ true
 build-first runtime (During Connect) ended runs are = rw (are (λ e. cc)) refl
 build-first runtime (After Connect) ended runs are = rw (are (λ e. cc)) refl
 build-first runtime stage ended runs are = cc
@@ -165,7 +135,7 @@ no-task phase n task same =
     subst (λ (k : ℕ). ((k == 4) || nat_lt 8 k) ≡ true) at (sym (task-number phase) ∙ task)
 
 -- and connect has ended where one is in progress
-task-after : (runtime : Bool) (stage : Stage) (ended : List Phase) (phase : Phase) → is_task phase ≡ true → list_any (same_phase phase) (in_progress stage) ≡ true → ended ≡ reverse (filter (is_run runtime) (take (next_number stage) ending_order)) → list_any (λ one. ends_connect (End one)) ended ≡ true
+task-after : (runtime : Bool) (stage : RunStage) (ended : List Phase) (phase : Phase) → is_task phase ≡ true → list_any (same_phase phase) (in_progress stage) ≡ true → ended ≡ reverse (filter (is_run runtime) (take (next_number stage) ending_order)) → list_any (λ one. ends_connect (End one)) ended ≡ true
 task-after runtime Before ended phase task going are = cc
 task-after runtime (During Build) ended phase task going are = let none : false ≡ true = no-task phase (phase_number Build) task (one-of (same_phase phase Build) going) in cc
 task-after runtime (During Connect) ended phase task going are = let none : false ≡ true = no-task phase (phase_number Connect) task (one-of (same_phase phase Connect) going) in cc
@@ -228,7 +198,7 @@ task-after runtime (After last) ended phase task going are = cc
 task-after runtime Ended ended phase task going are = cc
 
 -- or where one has ended
-task-ended : (runtime : Bool) (stage : Stage) (ended : List Phase) (phase : Phase) → (stage ≡ Ended → ⊥) → is_task phase ≡ true → ended ≡ reverse (filter (is_run runtime) (take (next_number stage) ending_order)) → list_any (same_phase phase) ended ≡ true → list_any (λ one. ends_connect (End one)) ended ≡ true
+task-ended : (runtime : Bool) (stage : RunStage) (ended : List Phase) (phase : Phase) → (stage ≡ Ended → ⊥) → is_task phase ≡ true → ended ≡ reverse (filter (is_run runtime) (take (next_number stage) ending_order)) → list_any (same_phase phase) ended ≡ true → list_any (λ one. ends_connect (End one)) ended ≡ true
 task-ended runtime Before ended phase on task are has = let none : false ≡ true = rw are at has in cc
 task-ended runtime (During Build) ended phase on task are has = let none : false ≡ true = rw are at has in cc
 task-ended runtime (After Build) ended phase on task are has = let one : same_phase phase Build || false ≡ true = rw are at has in let none : false ≡ true = no-task phase 0 task (one-of (same_phase phase Build) one) in cc
@@ -332,6 +302,6 @@ task_phases_follow_connect script history phase each going task = task-stands sc
     on : stage_of history ≡ Ended → ⊥
     on ended = let none : false ≡ true = ap (λ stage. list_any (same_phase phase) (in_progress stage)) (sym ended) ∙ going in cc
 
-module _ (keeps : OrderKeepsAll Owner (Option Call)) (excludes : LockExcludes) where
+module _ (keeps : OrderKeepsAll EventTarget (Option Call)) (excludes : LockExcludes) where
   pub tasks_follow_connect : TasksFollowConnect
   tasks_follow_connect script history each on task = acting-task script history (act_phase history) each on task (acting-stands keeps excludes script history each on)

@@ -1,5 +1,5 @@
--- What sequences ask of their sequencers, who is granted what, and where each driver stands (IEEE 1800.2-2020, Clause 15). What drivers ask is asked once
--- the wiring is closed.
+-- What sequences request from their sequencers, what is granted to them, and the state of each driver (IEEE 1800.2-2020, Clause 15).
+-- The definitions about drivers are used only once the wiring is closed.
 use Rattle.std.specs.Prelude.{ℕ, Bool, true, false, not, ◌&&◌, ◌==◌, nat_lt, List, [], ◌∷◌, ◌++◌, length, map, filter, find, slice_get, Option, Some, None, option_map, option_and_then, option_to_list, unwrap_or, if◌then◌else◌}
 use Rattle.std.specs.List.{list_any}
 use Rattle.std.specs.Option.{option_map_or}
@@ -27,10 +27,10 @@ use Rattle.uvm_object.specs.declared.entries.Outcome.{Outcome}
 use Rattle.uvm_object.specs.declared.entries.Outcome.TheVariants.{Done, Waits, Finished}
 use Rattle.uvm_object.specs.declared.entries.Entry.{Entry}
 use Rattle.uvm_object.specs.declared.entries.Entry.TheVariants.{Did, Locked, Granted, End}
-use Rattle.bench_history.specs.declared.askers.DriverPort.{DriverPort}
+use Rattle.bench_history.specs.declared.requesters.DriverPort.{DriverPort}
 use Rattle.bench_history.specs.History.{act_phase, is_of_phase, nodes_of}
 use Rattle.uvm_tlm.specs.Fifos.{waiting_count}
-use Rattle.bench_history.specs.Passing.{station_at}
+use Rattle.bench_history.specs.Passing.{fifo_state_at}
 use Rattle.bench_history.specs.Ports.{port_below}
 use Rattle.bench_history.specs.Sequences.{is_live, parent_priority, sequences_of}
 use Rattle.bench_history.specs.Wires.{closed_wiring}
@@ -50,97 +50,97 @@ modes_of (entry ∷ before) = modes_of before
 abbrev pub mode_at : List Entry → ℕ → Option Mode
 mode_at history node = option_map (λ found. found.1) (find (λ found. found.0 == node) (modes_of history))
 
--- what a sequence wishes: to send an item, to hold the sequencer, or to hold it before all that was asked for
-pub data Wish : Type 0 where
-  ForItem : (given : Option ℕ) → Wish
-  ForLock : Wish
-  ForGrab : Wish
+-- what a sequence requests: to send an item, to lock the sequencer, or to lock it ahead of all requests that wait
+pub data RequestKind : Type 0 where
+  ForItem : (given : Option ℕ) → RequestKind
+  ForLock : RequestKind
+  ForGrab : RequestKind
 
--- what a sequence asks of its sequencer by an action that is done, if anything
-abbrev pub wish_in : Outcome → Act → Option Wish
+-- what a sequence requests from its sequencer by an action that is done, if anything
+abbrev pub wish_in : Outcome → Act → Option RequestKind
 wish_in Done (Requests given) = Some (ForItem given)
 wish_in Done Lock = Some ForLock
 wish_in Done Grab = Some ForGrab
 wish_in outcome act = None
 
--- the sequence that somebody is, where it runs on a sequencer
+-- the number of the sequence that performs, if it runs on this sequencer
 abbrev pub sequence_on : ℕ → Who → Option ℕ
 sequence_on node (who.Node other) = None
 sequence_on node (who.Sequence home id) = if home == node then Some id else None
 
--- what was asked of a sequencer, and at which place
-pub record Wanted : Type 0 where
+-- a request at a sequencer, and its place in the log
+pub record SequencerRequest : Type 0 where
   pub request : Request
   pub place : ℕ
 
--- a request, made at this place in the log
-abbrev pub wanted : ℕ → Request → Wanted
-wanted place request = record { request = request; place = place }
+-- a request that was made at this place in the log
+abbrev pub sequencer_request : ℕ → Request → SequencerRequest
+sequencer_request place request = record { request = request; place = place }
 
--- a request has the priority that is given, else its sequence's
+-- the priority of a request: the one that is given, otherwise that of its sequence
 abbrev pub request_priority : List Start → ℕ → Option ℕ → ℕ
 request_priority started id given = unwrap_or given (parent_priority started (Some id))
 
--- in the order of the queue: grabs first, the latest foremost, then the others as they came
-abbrev pub with_wish : List Start → ℕ → Option Wish → Option ℕ → List Wanted → List Wanted
+-- the requests with one more, in the order of the queue: grabs first, the latest at the front, then the others in order of arrival
+abbrev pub with_wish : List Start → ℕ → Option RequestKind → Option ℕ → List SequencerRequest → List SequencerRequest
 with_wish started place None id asked = asked
 with_wish started place (Some wish) None asked = asked
-with_wish started place (Some (ForItem given)) (Some id) asked = asked ++ wanted place (item_request id (request_priority started id given)) ∷ []
-with_wish started place (Some ForLock) (Some id) asked = asked ++ wanted place (lock_request id) ∷ []
-with_wish started place (Some ForGrab) (Some id) asked = wanted place (lock_request id) ∷ asked
+with_wish started place (Some (ForItem given)) (Some id) asked = asked ++ sequencer_request place (item_request id (request_priority started id given)) ∷ []
+with_wish started place (Some ForLock) (Some id) asked = asked ++ sequencer_request place (lock_request id) ∷ []
+with_wish started place (Some ForGrab) (Some id) asked = sequencer_request place (lock_request id) ∷ asked
 
 -- all requests that were ever made at a sequencer, in the order of its queue
-abbrev pub all_wanted : List Entry → ℕ → List Wanted
-all_wanted [] node = []
-all_wanted (Did performer outcome act ∷ before) node = with_wish (sequences_of before) (length before) (wish_in outcome act) (sequence_on node performer) (all_wanted before node)
-all_wanted (entry ∷ before) node = all_wanted before node
+abbrev pub all_requests : List Entry → ℕ → List SequencerRequest
+all_requests [] node = []
+all_requests (Did performer outcome act ∷ before) node = with_wish (sequences_of before) (length before) (wish_in outcome act) (sequence_on node performer) (all_requests before node)
+all_requests (entry ∷ before) node = all_requests before node
 
--- which sequences were granted an item there, each at which place
+-- the sequences that were granted an item at a sequencer, each with the place of the grant in the log
 abbrev pub grants_at : List Entry → ℕ → List (ℕ × ℕ)
 grants_at [] node = []
 grants_at (Granted other grant ∷ before) node = if other == node then (grant.id, length before) ∷ grants_at before node else grants_at before node
 grants_at (entry ∷ before) node = grants_at before node
 
--- which sequences were granted a lock there, each at which place
+-- the sequences that were granted a lock at a sequencer, each with the place of the grant in the log
 abbrev pub locks_at : List Entry → ℕ → List (ℕ × ℕ)
 locks_at [] node = []
 locks_at (Locked other id ∷ before) node = if other == node then (id, length before) ∷ locks_at before node else locks_at before node
 locks_at (entry ∷ before) node = locks_at before node
 
--- the sequence of a request was granted something after the place at which it asked
-abbrev pub granted_since : List (ℕ × ℕ) → Wanted → Bool
+-- the sequence of a request was granted something after the place of the request
+abbrev pub granted_since : List (ℕ × ℕ) → SequencerRequest → Bool
 granted_since grants w = list_any (λ grant. (grant.0 == w.request.seq) && nat_lt w.place grant.1) grants
 
--- a request waits: its sequence is active, and was not granted it since it asked
-abbrev pub waits_by : (ℕ → Bool) → List (ℕ × ℕ) → List (ℕ × ℕ) → Wanted → Bool
+-- a request waits: its sequence is active, and was granted nothing of the requested sort since the request
+abbrev pub waits_by : (ℕ → Bool) → List (ℕ × ℕ) → List (ℕ × ℕ) → SequencerRequest → Bool
 waits_by live grants locks w = live w.request.seq && not (granted_since (if is_item w.request then grants else locks) w)
 
 -- a request at a sequencer still waits at the end of a log
-abbrev pub still_waits : List Entry → ℕ → Wanted → Bool
+abbrev pub still_waits : List Entry → ℕ → SequencerRequest → Bool
 still_waits history node = waits_by (is_live history) (grants_at history node) (locks_at history node)
 
 -- the requests that wait at a sequencer, in the order of its queue
 abbrev pub request_queue : List Entry → ℕ → List Request
-request_queue history node = map (λ w. w.request) (filter (still_waits history node) (all_wanted history node))
+request_queue history node = map (λ w. w.request) (filter (still_waits history node) (all_requests history node))
 
--- an action gives a lock back
+-- an action releases a lock
 abbrev pub unlocks : Outcome → Act → Bool
 unlocks Done Unlock = true
 unlocks outcome act = false
 
--- the locks that are held after an action: without the last one of a sequence that gives a lock back
+-- the locks that are held after an action: without the last lock of a sequence that releases one
 abbrev pub given_back : Bool → Option ℕ → List ℕ → List ℕ
 given_back true (Some id) held = released id held
 given_back gives id held = held
 
--- the locks that were granted and not given back, in the order of granting; a sequence gives back the last of its own
+-- the locks that were granted and not released, in the order of their grants; a sequence releases the last of its own
 abbrev pub locks_held : List Entry → ℕ → List ℕ
 locks_held [] node = []
 locks_held (Locked other id ∷ before) node = if other == node then locks_held before node ++ id ∷ [] else locks_held before node
 locks_held (Did performer outcome act ∷ before) node = given_back (unlocks outcome act) (sequence_on node performer) (locks_held before node)
 locks_held (entry ∷ before) node = locks_held before node
 
--- and whose sequence lives
+-- the locks that were granted and not released and whose sequence is active
 abbrev pub holders : List Entry → ℕ → List ℕ
 holders history node = filter (is_live history) (locks_held history node)
 
@@ -152,7 +152,7 @@ if_arbitrated history node = option_map (λ mode. node) (mode_at history node)
 unfoldable pub sequencer_below : List Entry → Who → List ℕ → Option ℕ
 sequencer_below history performer name = option_and_then (λ port. option_and_then (if_arbitrated history) (slice_get (targets_of (closed_wiring history) port) 0)) (port_below history performer Seq name)
 
--- what an act says of a driver: it waits for an item, it is done with one, it is sent one, or the sequence that it may be granted ends
+-- what an action means for a driver: it waits for an item, completes one, is sent one, or the sequence that may hold its grant ends
 pub data DriverMove : Type 0 where
   Awaits : (port : List ℕ) (how : How) → DriverMove
   IsDone : (port : List ℕ) → DriverMove
@@ -168,7 +168,7 @@ driver_move Done (Send item) = Some Sends
 driver_move Finished act = Some Leaves
 driver_move outcome act = None
 
--- a sequencer is reached, and it is the one at this node
+-- a sequencer is reached, and it is at this node
 abbrev pub leads_there : ℕ → Option ℕ → Bool
 leads_there node reached = option_map_or (λ other. other == node) reached false
 
@@ -185,38 +185,38 @@ driver_by before node performer (Some Sends) driver = option_map_or (sent_by dri
 driver_by before node performer (Some Leaves) driver = option_map_or (λ id. left_by (grant_of id driver) driver) (sequence_on node performer) driver
 
 -- who drives a sequencer after an action: its performer, if it waits there for an item; otherwise as before
-abbrev pub asker_by : List Entry → ℕ → Who → Option DriverMove → Option DriverPort → Option DriverPort
-asker_by before node performer (Some (Awaits port how)) asker = if leads_there node (sequencer_below before performer port) then Some (record { who = performer; name = port; phase = act_phase before }) else asker
-asker_by before node performer move asker = asker
+abbrev pub requester_by : List Entry → ℕ → Who → Option DriverMove → Option DriverPort → Option DriverPort
+requester_by before node performer (Some (Awaits port how)) requester = if leads_there node (sequencer_below before performer port) then Some (record { who = performer; name = port; phase = act_phase before }) else requester
+requester_by before node performer move requester = requester
 
 -- who drives a sequencer, through which port, and in which phase it asked: the performer that asked last
-abbrev pub driver_asker : List Entry → ℕ → Option DriverPort
-driver_asker [] node = None
-driver_asker (Did performer outcome act ∷ before) node = asker_by before node performer (driver_move outcome act) (driver_asker before node)
-driver_asker (entry ∷ before) node = driver_asker before node
+abbrev pub driver_requester : List Entry → ℕ → Option DriverPort
+driver_requester [] node = None
+driver_requester (Did performer outcome act ∷ before) node = requester_by before node performer (driver_move outcome act) (driver_requester before node)
+driver_requester (entry ∷ before) node = driver_requester before node
 
--- the phase in which it asked last
+-- the phase in which the driver of a sequencer asked last
 abbrev pub asked_in : List Entry → ℕ → Option Phase
-asked_in history node = option_and_then (λ asker. asker.phase) (driver_asker history node)
+asked_in history node = option_and_then (λ requester. requester.phase) (driver_requester history node)
 
--- what was asked last ends with this phase
+-- the last request of a driver ends with this phase
 abbrev pub ends_ask : Phase → Option DriverPort → Bool
-ends_ask phase asker = option_map_or (λ asker. is_of_phase phase asker.phase) asker true
+ends_ask phase requester = option_map_or (λ requester. is_of_phase phase requester.phase) requester true
 
--- where the driver of a sequencer stands: the last of these decides, a grant, or the end of a phase, with which what it asked ends, or the sequence that it
--- may have been granted
+-- the state of the driver of a sequencer: the last action, grant or end of a phase that concerns it decides. With a phase ends the
+-- request of a driver that asked in this phase, and the grant of a sequence that ends with it
 abbrev pub driver_state : List Entry → ℕ → Driver
 driver_state [] node = Idle
 driver_state (Did performer outcome act ∷ before) node = driver_by before node performer (driver_move outcome act) (driver_state before node)
 driver_state (Granted other grant ∷ before) node = if other == node then granted_by grant.id (driver_state before node) else driver_state before node
-driver_state (End phase ∷ before) node = kept_on (ends_ask phase (driver_asker before node)) (is_live (End phase ∷ before)) (driver_state before node)
+driver_state (End phase ∷ before) node = kept_on (ends_ask phase (driver_requester before node)) (is_live (End phase ∷ before)) (driver_state before node)
 driver_state (entry ∷ before) node = driver_state before node
 
--- a sequencer, as the service has it. No port is named: a driver asks through a sound one, and of the ports that lead to a sequencer one alone is sound
+-- the sequencer at a node as a value of the service; it names no port, as a driver asks through the one correctly connected port to the sequencer
 abbrev pub sequencer_with : List Entry → ℕ → Mode → SequencerValue
 sequencer_with history node mode = record { mode = mode; port = None; driver = driver_state history node; queue = request_queue history node; holders = holders history node }
 
--- the sequencer at a node, if there is one, as the log says
+-- the sequencer at a node according to the log, if there is one
 abbrev pub sequencer_at : List Entry → ℕ → Option SequencerValue
 sequencer_at history node = option_map (sequencer_with history node) (mode_at history node)
 
@@ -242,4 +242,4 @@ requests_at history node = option_map_or (λ s. length s.queue) (sequencer_at hi
 
 -- how many requests wait at a node: at its FIFO or at its sequencer; 0 if it is neither
 abbrev pub waiters_at : List Entry → ℕ → ℕ
-waiters_at history node = option_map_or (λ station. waiting_count station.fifo) (station_at history node) (requests_at history node)
+waiters_at history node = option_map_or (λ fifo_state. waiting_count fifo_state.fifo) (fifo_state_at history node) (requests_at history node)

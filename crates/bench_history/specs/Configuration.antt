@@ -1,7 +1,7 @@
--- The settings that a log says, the newest first.
+-- The configuration settings of a log, the newest first.
 use Rattle.std.specs.Prelude.{ℕ, Bool, true, false, List, [], ◌∷◌, length, map, reverse}
 use Rattle.uvm_glob.specs.Paths.{path_text, dotted}
-use Rattle.uvm_config.specs.Choice.{precedence_of}
+use Rattle.uvm_config.specs.ChosenValue.{precedence_of}
 use Rattle.uvm_config.specs.Answers.{Setting}
 use Rattle.uvm_phase.specs.declared.phases.Phase.TheVariants.{Build}
 use Rattle.uvm_tree.specs.Nodes.{path_at}
@@ -14,16 +14,16 @@ use Rattle.uvm_object.specs.declared.entries.Entry.{Entry}
 use Rattle.uvm_object.specs.declared.entries.Entry.TheVariants.{Did}
 use Rattle.script_tables.specs.declared.rows.Setting as script
 use Rattle.bench_script.specs.Scripts.{ScriptValue}
-use Rattle.bench_history.specs.declared.stages.Stage.{Stage}
-use Rattle.bench_history.specs.declared.stages.Stage.TheVariants.{During}
+use Rattle.bench_history.specs.declared.stages.RunStage.{RunStage}
+use Rattle.bench_history.specs.declared.stages.RunStage.TheVariants.{During}
 use Rattle.bench_history.specs.History.{stage_of, nodes_of}
 
--- a setting of the script counts as one of the top, whose path is empty and whose depth is 0, made while build does not run
+-- a setting of the script: it counts as a setting of the top node, with the empty path and depth 0, made while build does not run
 abbrev pub given_setting : script.Setting → Setting
 given_setting given = record { scope = given.scope; field = given.field; precedence = precedence_of false 0; value = given.value }
 
--- build runs
-abbrev pub is_building : Stage → Bool
+-- the build phase runs
+abbrev pub is_building : RunStage → Bool
 is_building (During Build) = true
 is_building stage = false
 
@@ -33,7 +33,7 @@ settings_after building path settings Done (Set glob field value) =
     record { scope = dotted (path_text path) glob; field = field; precedence = precedence_of building (length path); value = value } ∷ settings
 settings_after building path settings outcome act = settings
 
--- the settings, the newest first: those of the accepted acts, each under its performer's path, behind them the script's
+-- the settings, the newest first: those of the accepted actions, each under the path of its performer, then those of the script
 abbrev pub settings_of : ScriptValue → List Entry → List Setting
 settings_of script [] = reverse (map given_setting script.settings)
 settings_of script (Did performer outcome act ∷ before) =

@@ -1,6 +1,5 @@
--- What a log says. A history is the list of its entries, the newest first: a phase begins or ends; somebody, the hearer, has heard a call and
--- answered with acts; an act was done by its performer, and came to an outcome, which may be that it was refused; the machine notes a fault; the
--- run is over.
+-- What a log says. A history is the list of its entries, the newest first: a phase begins or ends; an object has received a call and answered with
+-- actions; a performer's action had an outcome, which may be that it was refused; the kernel notes an error; the run ends.
 use Rattle.std.specs.Prelude.{ℕ, Bool, true, false, not, ◌==◌, List, [], ◌∷◌, ◌++◌, length, reverse, filter, slice_get, codes, Option, Some, None, if◌then◌else◌}
 use Rattle.std.specs.List.{flat_map, list_any}
 use Rattle.std.specs.Option.{option_map_or}
@@ -31,62 +30,61 @@ use Rattle.uvm_object.specs.declared.entries.Origin.{Origin}
 use Rattle.uvm_object.specs.declared.entries.Entry.{Entry}
 use Rattle.uvm_object.specs.declared.entries.Entry.TheVariants.{Time, Begin, End, Heard, Did, Note, Over}
 use Rattle.bench_script.specs.Scripts.{ScriptValue}
-use Rattle.bench_history.specs.declared.stages.Stage.{Stage}
-use Rattle.bench_history.specs.declared.stages.Stage.TheVariants.{Before, During, After, Ended}
+use Rattle.bench_history.specs.declared.stages.RunStage.{RunStage}
+use Rattle.bench_history.specs.declared.stages.RunStage.TheVariants.{Before, During, After, Ended}
 
--- where the run stands
-abbrev pub stage_of : List Entry → Stage
+-- the stage that the run has reached
+abbrev pub stage_of : List Entry → RunStage
 stage_of [] = Before
 stage_of (Begin phase ∷ before) = During phase
 stage_of (End phase ∷ before) = After phase
 stage_of (Over reason ∷ before) = Ended
 stage_of (entry ∷ before) = stage_of before
 
--- the present time in ticks: that to which time has passed last
+-- the current time in ticks: the time of the newest `Time` entry, or 0
 abbrev pub now_of : List Entry → ℕ
 now_of [] = 0
 now_of (Time time ∷ before) = time
 now_of (entry ∷ before) = now_of before
 
--- the phase that was begun last and has not ended: once a run-time phase has ended that is run, beside which it went
-abbrev pub running : Stage → Option Phase
+-- the phase that was begun last and has not ended; after the end of a run-time phase this is the run phase
+abbrev pub running : RunStage → Option Phase
 running (During phase) = Some phase
 running (After phase) = if is_runtime phase then Some Run else None
 running stage = None
 
--- the phases that were begun and have not ended, in the order of their begins: there are two while a run-time phase goes beside run
-abbrev pub in_progress : Stage → List Phase
+-- the active phases, in the order in which they began: two while a run-time phase is active in parallel with the run phase
+abbrev pub in_progress : RunStage → List Phase
 in_progress (During phase) = if is_runtime phase then Run ∷ phase ∷ [] else phase ∷ []
 in_progress (After phase) = if is_runtime phase then Run ∷ [] else []
 in_progress stage = []
 
--- what belongs to a phase, if to one, belongs to this one
+-- the phase is given, and it is this one
 abbrev pub is_of_phase : Phase → Option Phase → Bool
 is_of_phase phase other = option_map_or (λ other. same_phase other phase) other false
 
--- an act belongs to a phase that takes time
+-- an action belongs to a phase that takes time
 abbrev pub in_task : Option Phase → Bool
 in_task phase = option_map_or is_task phase false
 
--- the phase to which a call belongs: one that was due to that of its origin, and a phase's call to this phase
+-- the phase to which a call belongs: that of its origin, or for a phase's own call this phase
 abbrev pub phase_heard : Call → Option Origin → Option Phase
 phase_heard call (Some origin) = Some origin.phase
 phase_heard (call.Phase phase) None = Some phase
 phase_heard call None = None
 
--- the phase to which an act belongs that is performed next, and so what it asks for, starts or causes: that of the call which it answers. The
--- script's act belongs to none
+-- the phase of the next action, and of all that it requests, starts or causes: that of the call which it answers; none for the creation of the test
 abbrev pub act_phase : List Entry → Option Phase
 act_phase [] = None
 act_phase (Heard hearer origin call acts ∷ before) = phase_heard call origin
 act_phase (entry ∷ before) = act_phase before
 
--- the name of the object that an act creates; no other act creates one
+-- the name of the object that an action creates; empty for any other action
 abbrev pub created_name : Act → List ℕ
 created_name (Create type_name name) = name
 created_name act = []
 
--- what an addition adds to the tree
+-- the kind of the node that an addition adds to the tree
 abbrev pub kind_of : What → NodeKind
 kind_of (what.Sequencer mode) = kind.Sequencer
 kind_of (what.Fifo size) = kind.Fifo
@@ -100,7 +98,7 @@ nodes_after nodes performer (Made type_name) act = nodes ++ child nodes (node_of
 nodes_after nodes performer Done (Add name what) = nodes ++ child nodes (node_of performer) name (kind_of what) ∷ []
 nodes_after nodes performer outcome act = nodes
 
--- all nodes by their numbers: the top, and under its performer each object that was made and each accepted addition
+-- all nodes by their numbers: the top node, and below its performer each object that was made and each accepted addition
 abbrev pub nodes_of : List Entry → List Node
 nodes_of [] = top ∷ []
 nodes_of (Did performer outcome act ∷ before) = nodes_after (nodes_of before) performer outcome act
@@ -117,72 +115,72 @@ components_of [] = []
 components_of (Did performer outcome act ∷ before) = components_after (length (nodes_of before)) (components_of before) outcome
 components_of (entry ∷ before) = components_of before
 
--- two phases are run-time phases, or neither is: of such two never both are in progress
+-- both phases are run-time phases, or neither is: two such phases are never active in parallel
 abbrev pub same_sort : Phase → Phase → Bool
 same_sort a b = if is_runtime a then is_runtime b else not (is_runtime b)
 
--- a call is one of these phases'
+-- a call is that of a phase, and this phase and the given one are both run-time phases or neither is
 abbrev pub calls_sort : Phase → Call → Bool
 calls_sort phase (call.Phase other) = same_sort other phase
 calls_sort phase call = false
 
--- the nodes that had the call of a phase since it began: a call without a cause is a phase's
-abbrev pub called_of : Phase → List Entry → List ℕ
-called_of phase [] = []
-called_of phase (Begin other ∷ before) = if same_sort other phase then [] else called_of phase before
-called_of phase (Heard hearer None call acts ∷ before) = if calls_sort phase call then node_of hearer ∷ called_of phase before else called_of phase before
-called_of phase (entry ∷ before) = called_of phase before
+-- the nodes that have received the call of a phase since it began; a call without an origin is that of a phase
+abbrev pub components_called : Phase → List Entry → List ℕ
+components_called phase [] = []
+components_called phase (Begin other ∷ before) = if same_sort other phase then [] else components_called phase before
+components_called phase (Heard hearer None call acts ∷ before) = if calls_sort phase call then node_of hearer ∷ components_called phase before else components_called phase before
+components_called phase (entry ∷ before) = components_called phase before
 
--- a node is among those that had the call
+-- a node is among those that have received the call
 abbrev pub had_call : List ℕ → ℕ → Bool
 had_call called node = list_any (λ other. other == node) called
 
--- the order in which a phase goes
+-- the order in which the components receive the call of a phase
 abbrev pub phase_order : Phase → PathOrder
 phase_order phase = if is_top_down phase then down_cmp else up_cmp
 
--- the node whose turn it is: of those that hold an object and had no call the least by the phase's order
+-- the component that is next in a phase: the first in its order that has not yet received its call
 unfoldable pub next_call : Phase → List Entry → Option ℕ
 next_call phase history =
     least (is_before (phase_order phase) (nodes_of history))
-    (filter (λ node. not (had_call (called_of phase history) node)) (components_of history))
+    (filter (λ node. not (had_call (components_called phase history) node)) (components_of history))
 
--- the name of a type, or another where there is no such type
+-- the name of a type, or the other name if there is no such type
 abbrev pub type_name_or : Types → ℕ → List ℕ → List ℕ
 type_name_or types type_id other = option_map_or (λ t. t.0) (slice_get types type_id) other
 
--- the script counts as an answer of the top, whose one act creates the test; without a test its type is the empty name, which is refused
-abbrev pub opening : ScriptValue → Act
-opening script = Create (option_map_or (λ test. type_name_or script.types test []) script.test []) (codes "uvm_test_top")
+-- the creation of the test: the one action of the top node; if there is no test, its type name is empty, which is refused
+abbrev pub test_creation : ScriptValue → Act
+test_creation script = Create (option_map_or (λ test. type_name_or script.types test []) script.test []) (codes "uvm_test_top")
 
 -- all actions except the first
 abbrev pub rest_of : List Act → List Act
 rest_of [] = []
 rest_of (act ∷ acts) = acts
 
--- one goes with each of their entries, performed or refused; a sequence that has finished leaves none
+-- the actions that remain after the entry of the first, performed or refused; none after a sequence has finished
 abbrev pub left_after : Outcome → List Act → List Act
 left_after Finished left = []
 left_after outcome left = rest_of left
 
--- the acts of the last answer that are left; a note leaves none. Before any answer the script's is left
-abbrev pub left_of : ScriptValue → List Entry → List Act
-left_of script [] = opening script ∷ []
-left_of script (Heard hearer cause call acts ∷ before) = acts
-left_of script (Did performer outcome act ∷ before) = left_after outcome (left_of script before)
-left_of script (Note fatal node ∷ before) = []
-left_of script (entry ∷ before) = left_of script before
+-- the remaining actions of the last answer; none after a note. Before the first answer it is the creation of the test
+abbrev pub remaining_acts : ScriptValue → List Entry → List Act
+remaining_acts script [] = test_creation script ∷ []
+remaining_acts script (Heard hearer cause call acts ∷ before) = acts
+remaining_acts script (Did performer outcome act ∷ before) = left_after outcome (remaining_acts script before)
+remaining_acts script (Note fatal node ∷ before) = []
+remaining_acts script (entry ∷ before) = remaining_acts script before
 
 -- the first action, if there is one
 abbrev pub head_of : List Act → Option Act
 head_of [] = None
 head_of (act ∷ acts) = Some act
 
--- who gave the last answer, and so performs its acts; the top before any
-abbrev pub speaker_of : List Entry → Who
-speaker_of [] = who.Node 0
-speaker_of (Heard hearer cause call acts ∷ before) = hearer
-speaker_of (entry ∷ before) = speaker_of before
+-- the performer: the object that gave the last answer; the top node before any
+abbrev pub performer_of : List Entry → Who
+performer_of [] = who.Node 0
+performer_of (Heard hearer cause call acts ∷ before) = hearer
+performer_of (entry ∷ before) = performer_of before
 
 -- the overrides with one more, the newest, if both types are known
 abbrev pub with_override : Option ℕ → Option ℕ → (ℕ → ℕ → Override) → List Override → List Override
@@ -197,7 +195,7 @@ overrides_after types nodes overrides performer Done (OverrideInst original new 
     with_override (type_named types original) (type_named types new) (λ o n. Instance o n (dotted (path_text (path_at nodes (node_of performer))) glob)) overrides
 overrides_after types nodes overrides performer outcome act = overrides
 
--- the overrides, the newest first: those of the accepted acts, globs under their performers' paths, behind them the script's
+-- the overrides, the newest first: those of the accepted actions, each glob below the path of its performer, then those of the script
 abbrev pub overrides_of : ScriptValue → List Entry → List Override
 overrides_of script [] = reverse script.overrides
 overrides_of script (Did performer outcome act ∷ before) = overrides_after script.types (nodes_of before) (overrides_of script before) performer outcome act

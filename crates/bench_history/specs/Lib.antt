@@ -1,10 +1,10 @@
--- What a log says, what may come next in it, and what a legal log is. To read it begin with Next (`next_of`, `IsLegal`), go on with Cases, one
--- word for each case of the machine, and then with Upshots (what each act comes to), Refusals (why not), History, Dues, Passing, Ports, Sequences, Reports, Wires and
--- Configuration (what the log says), from which these draw. A file has its small words first, and the word that it is for last. Laws is what holds of all logs.
--- A word of Rust, as `Entry`, is the type of that name in the `src/` of the crate that its `use` line names. A name or a glob is seen as its
--- bytes, a path as the list of its names, somebody (`Who`) by the node at which it stands.
+-- What a log says, what may come next in it, and what a legal log is. Begin with Next (`next_of`, `IsLegal`) and Cases, with one definition
+-- for each case of the kernel. Effects is what each action results in, and Refusals is why one is refused. History, Dues, Passing, Ports,
+-- Sequences, Reports, Wires and Configuration are what the log says. Laws is what holds of all logs. A file has its auxiliary definitions
+-- first and its main definition last. A name from Rust, as `Entry`, is the type of that name in `src/` of the crate in its `use` line.
+-- A name or a glob is the list of its bytes, and a path the list of its names. An object (`Who`) has the number of its node.
 pub mod Limits
-pub mod Owners
+pub mod EventTargets
 pub mod History
 pub mod Configuration
 pub mod Objections
@@ -16,8 +16,9 @@ pub mod Arbitration
 pub mod Dues
 pub mod Passing
 pub mod Refusals
-pub mod Upshots
+pub mod Effects
 pub mod Cases
 pub mod Next
 pub mod Laws
+pub mod Coming
 pub mod LegalLogs

@@ -2,18 +2,18 @@
 use Rattle.std.specs.Prelude.{◌^◌, ◌==◌, ℕ, if◌then◌else◌}
 use Rattle.bench_script.specs.Scripts.{ScriptValue}
 
--- the most entries of a log
+-- the maximum number of entries of a log
 unfoldable pub log_limit : ScriptValue → ℕ
 log_limit script = if script.version == 2 then 8000000 else 1000000
 
--- the most ticks of a wait or a drain time
+-- the maximum number of ticks of a wait or a drain time
 abbrev pub most_ticks : ℕ
 most_ticks = 10 ^ 15
 
--- the most actions of an answer
+-- the maximum number of actions of an answer
 abbrev pub most_acts : ℕ
 most_acts = 64
 
--- the priority of a sequence that is given none and has no parent sequence
+-- the default priority: that of a sequence that is given none and has no parent sequence
 abbrev pub usual_priority : ℕ
 usual_priority = 100

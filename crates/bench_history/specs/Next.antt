@@ -10,7 +10,7 @@ use Rattle.uvm_object.specs.declared.entries.Entry.TheVariants.{Heard, Did, Gran
 use Rattle.bench_script.specs.Scripts.{ScriptValue}
 use Rattle.bench_history.specs.declared.needs.Need as declared
 use Rattle.bench_history.specs.Limits.{log_limit}
-use Rattle.bench_history.specs.History.{in_progress, stage_of, running, left_of}
+use Rattle.bench_history.specs.History.{in_progress, stage_of, running, remaining_acts}
 use Rattle.bench_history.specs.Reports.{reason_of}
 use Rattle.bench_history.specs.Dues.{due_now}
 use Rattle.bench_history.specs.Passing.{next_passed}
@@ -21,7 +21,7 @@ use Rattle.bench_history.specs.Arbitration.{next_locked, next_served}
 abbrev pub first_next : List (Option Next) → Next
 first_next cases = unwrap_or (first_given cases) Nothing
 
--- the machine's cases, in the order in which they are looked at
+-- what comes next after a log: the first of the cases of the kernel that applies
 unfoldable pub next_of : ScriptValue → List Entry → Next
 next_of script history =
     first_next (
@@ -30,8 +30,8 @@ next_of script history =
     ∷ locking (next_locked history)
     ∷ serving history (next_served history)
     ∷ passing (next_passed history)
-    ∷ long_answer history (left_of script history)
-    ∷ first_act script history (left_of script history)
+    ∷ long_answer history (remaining_acts script history)
+    ∷ first_act script history (remaining_acts script history)
     ∷ event_due (due_now script history)
     ∷ phase_begin (phase_to_begin script.runtime (stage_of history))
     ∷ phase_call history (in_progress (stage_of history))
@@ -40,8 +40,8 @@ next_of script history =
     ∷ finish
     ∷ [])
 
--- whether an entry is what comes next. Three things are free: the acts of an answer, whether a needed object is made or declined, and the word of a grant
--- for which one is drawn
+-- an entry is what comes next. Three things are free: the actions of an answer, whether a needed object is made or declined, and the random
+-- number of a grant that consumes one
 abbrev pub Allows : Next → Entry → Type 0
 Allows (Exactly expected) entry = entry ≡ expected
 Allows (Answer hearer call cause) entry = (acts : List Act) × (entry ≡ Heard hearer cause call acts)
@@ -58,18 +58,18 @@ abbrev pub EachIsNext : ScriptValue → List Entry → Type 0
 EachIsNext script [] = Unit {0}
 EachIsNext script (entry ∷ before) = IsNext script before entry × EachIsNext script before
 
--- a legal log. The run need not be at its end; what would come next after a log that is full never does
+-- a legal log: each entry was next, and there are at most `log_limit` entries; the run need not have ended
 pub record IsLegal (script : ScriptValue) (history : List Entry) : Type 0 where
   pub each : EachIsNext script history
   pub few : length history ≤ log_limit script
 
--- what comes next is the entry of an act, or the object for one
+-- what comes next is the entry of an action, or the object that an action needs
 abbrev pub IsAct : Next → Type 0
 IsAct (Exactly (Did performer outcome act)) = Unit {0}
 IsAct (Need need made performer act) = Unit {0}
 IsAct next = ⊥
 
--- the object that is needed
+-- the object that is needed, if one is
 abbrev pub need_in : Next → Option declared.Need
 need_in (Need need made performer act) = Some need
 need_in next = None

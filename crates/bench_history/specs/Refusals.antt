@@ -1,5 +1,5 @@
--- Why acts are refused: for each sort of act the refusals in the order in which they are looked for. Before these an act is refused that is not open to
--- its performer, and after them an object that nobody supplies (Next, `Allows`).
+-- Why actions are refused: for each action the reasons, in the order of their checks. Before these checks an action is refused that is not
+-- open to its performer. After them an action is refused whose needed object is declined (Next, `Allows`).
 use Rattle.std.specs.Prelude.{ℕ, Bool, true, false, not, ◌&&◌, ◌||◌, ◌==◌, List, [], ◌∷◌, ◌++◌, length, slice_get, Option, Some, None, option_map, option_and_then, is_none, is_some, nat_le, nat_lt, if◌then◌else◌}
 use Rattle.std.specs.List.{list_any}
 use Rattle.std.specs.Option.{option_map_or}
@@ -30,7 +30,7 @@ use Rattle.uvm_sequencer.specs.Queues.{is_held, is_item_of, is_lock_of}
 use Rattle.uvm_sequencer.specs.Sequencers.{SequencerValue}
 use Rattle.uvm_object.specs.declared.fatals.Fatal.TheVariants.{CreatedAfterBuild, InvalidType, ChildTaken, TreeLimit, OverrideLoop, TooManySettings, ConnectedTooLate, UnknownNode, KindsDiffer, NoPort, NoSequencer, AskedTwice, NothingOut, NotGranted, NotHeld, OutsideTask, ObjectionBelowZero, OutOfRange}
 
--- a creation that is asked for below a node: of which type by name, under which name, and what it depends on, the overrides with the newest first
+-- the data of a creation: the type name, the new name, the node of the parent, and what it depends on; the newest override is first
 pub record Creation : Type 0 where
   pub built : Bool
   pub types : Types
@@ -40,7 +40,7 @@ pub record Creation : Type 0 where
   pub type_name : List ℕ
   pub name : List ℕ
 
--- the path at which it is to stand
+-- the path of the new node
 abbrev pub created_path : Creation → List (List ℕ)
 created_path creation = path_at creation.nodes creation.parent ++ creation.name ∷ []
 
@@ -48,25 +48,25 @@ created_path creation = path_at creation.nodes creation.parent ++ creation.name 
 abbrev pub named_of_kind : Kind → Types → List ℕ → Option ℕ
 named_of_kind kind types name = option_and_then (λ type_id. if option_map_or (λ t. is_same_kind t.1 kind) (slice_get types type_id) false then Some type_id else None) (type_named types name)
 
--- the type that is asked for, if it is a component's
+-- the type that is requested, if it is a component type
 abbrev pub type_asked : Creation → Option ℕ
 type_asked creation = named_of_kind Component creation.types creation.type_name
 
--- the type that the factory makes of it at that path; none where the overrides lead in a loop
+-- the type that the factory makes for a creation; none if its type is not a component type, or the overrides form a loop
 abbrev pub type_made : Creation → Option ℕ
 type_made creation = option_and_then (made_type creation.overrides (length creation.types) (path_text (created_path creation))) (type_asked creation)
 
--- the fatal report for a fault of the tree, if there is a fault
+-- the fatal report for an error of the tree, if there is an error
 abbrev pub fatal_of : Option TreeFault → Option Fatal
 fatal_of None = None
 fatal_of (Some NameTaken) = Some ChildTaken
 fatal_of (Some fault) = Some TreeLimit
 
--- why there is no new child of a name: it is taken, or nothing can stand there (no parent, no name, or beyond the limits of the tree)
+-- why a new child of a name is refused: the name is taken; or there is no such parent, no name, or a limit of the tree is exceeded
 abbrev pub child_refusal : List Node → ℕ → List ℕ → Option Fatal
 child_refusal nodes parent name = fatal_of (add_fault nodes parent name)
 
--- nothing is created after build; the type has to be a component's; there has to be a new child of the name; the overrides must be no loop
+-- why a creation is refused: build has ended, the type is not a component type, the child is refused, or the overrides form a loop
 unfoldable pub creation_refusal : Creation → Option Fatal
 creation_refusal creation =
     first_given (
@@ -76,11 +76,11 @@ creation_refusal creation =
     ∷ fault_if (is_none (type_made creation)) OverrideLoop
     ∷ [])
 
--- nothing is added after build; there has to be a new child of the name
+-- why an addition is refused: build has ended, or the child is refused
 unfoldable pub addition_refusal : Bool → List Node → ℕ → List ℕ → Option Fatal
 addition_refusal built nodes parent name = first_given (fault_if built CreatedAfterBuild ∷ child_refusal nodes parent name ∷ [])
 
--- a sequence that is to be started: of which type by name, on which sequencer, at which path and with which priority, and what that depends on
+-- the data of a start: the type name, the sequencer, the path and the priority, and what it depends on
 pub record Starting : Type 0 where
   pub phase : Option Phase
   pub types : Types
@@ -102,8 +102,8 @@ sequence_made starting = option_and_then (made_type starting.overrides (length s
 abbrev pub is_none_at_all : Option ℕ → Bool
 is_none_at_all given = option_map_or (λ priority. priority == 0) given false
 
--- a sequence is started in a phase that takes time, with a priority of at least 1; the type has to be a sequence's; a sequencer has to be there; its path
--- has to be within the limits of paths; the overrides must be no loop
+-- why a start is refused: its phase takes no time, the priority is 0, or the type is not a sequence type. Further, there is no sequencer, the path
+-- exceeds the limits of paths, or the overrides form a loop
 unfoldable pub starting_refusal : Starting → Option Fatal
 starting_refusal starting =
     first_given (
@@ -115,7 +115,7 @@ starting_refusal starting =
     ∷ fault_if (is_none (sequence_made starting)) OverrideLoop
     ∷ [])
 
--- more settings than these are not accepted, the script's among them
+-- why a setting is refused: there are `most_settings` already, including those of the script
 unfoldable pub setting_refusal : ℕ → Option Fatal
 setting_refusal count = fault_if (nat_le most_settings count) TooManySettings
 
@@ -128,11 +128,11 @@ abbrev pub are_of_one_kind : Option Kind → Option Kind → Bool
 are_of_one_kind (Some original) (Some new) = is_same_kind original new
 are_of_one_kind original new = false
 
--- an override goes between known types of one kind
+-- why an override is refused: a type is unknown, or the types are of different kinds
 unfoldable pub overriding_refusal : Types → List ℕ → List ℕ → Option Fatal
 overriding_refusal types original new = fault_if (not (are_of_one_kind (kind_named types original) (kind_named types new))) InvalidType
 
--- nothing is connected after connect; what can be connected has to stand at both ends; and it has to agree
+-- why a connection is refused: connect has ended, an end is unknown, or the ends do not fit
 unfoldable pub connection_refusal : Bool → Option End → Option End → Option Fatal
 connection_refusal connected from to =
     first_given (
@@ -141,55 +141,55 @@ connection_refusal connected from to =
     ∷ fault_if (not (may_connect from to)) KindsDiffer
     ∷ [])
 
--- what goes through ports goes in such a phase, through a port that is there
+-- why an action through a port is refused: its phase takes no time, or there is no correctly connected port
 unfoldable pub passing_refusal : Option Phase → Bool → Option Fatal
 passing_refusal phase is_there = first_given (fault_if (not (in_task phase)) OutsideTask ∷ fault_if (not is_there) NoPort ∷ [])
 
--- a driver asks only if it is idle
+-- why a driver's request for an item is refused: the driver is not idle
 abbrev pub ask_refusal : SequencerValue → Option Fatal
 ask_refusal s = fault_if (not (is_idle s.driver)) AskedTwice
 
--- a driver completes an item only if it holds one
+-- why a driver's completion of an item is refused: the driver holds none
 abbrev pub done_refusal : SequencerValue → Option Fatal
 done_refusal s = fault_if (is_none (hand_of s.driver)) NothingOut
 
--- it does either in such a phase, and through a port that is there
+-- why an action of a driver is refused: its phase takes no time, there is no correctly connected port, or this reason
 unfoldable pub driving_refusal : Option Phase → Bool → Option Fatal → Option Fatal
 driving_refusal phase is_there refusal = first_given (fault_if (not (in_task phase)) OutsideTask ∷ fault_if (not is_there) NoPort ∷ refusal ∷ [])
 
--- a sequence requests to send an item where it neither waits to send one nor was granted one that it has not sent
+-- why a request for an item is refused: the sequence already waits to send one, or has a grant and has not sent its item
 abbrev pub item_refusal : ℕ → SequencerValue → Option Fatal
 item_refusal id s = fault_if (list_any (is_item_of id) s.queue || is_some (grant_of id s.driver)) AskedTwice
 
--- with a priority of at least 1
+-- why a request for an item with a priority is refused: the priority is 0, or this reason
 unfoldable pub request_refusal : Option ℕ → Option Fatal → Option Fatal
 request_refusal given refusal = first_given (fault_if (is_none_at_all given) OutOfRange ∷ refusal ∷ [])
 
--- a sequence asks for a lock only if it waits for none
+-- why a request for a lock is refused: the sequence already waits for one
 abbrev pub lock_refusal : ℕ → SequencerValue → Option Fatal
 lock_refusal id s = fault_if (list_any (is_lock_of id) s.queue) AskedTwice
 
--- a sequence gives a lock back only if it holds one
+-- why the release of a lock is refused: the sequence holds none
 abbrev pub unlock_refusal : ℕ → SequencerValue → Option Fatal
 unlock_refusal id s = fault_if (not (is_held id s.holders)) NotHeld
 
--- a sequence sends only if it was granted and has not sent
+-- why a send is refused: the sequence has no grant for which it has not sent its item
 abbrev pub send_refusal : ℕ → SequencerValue → Option Fatal
 send_refusal id s = fault_if (is_none (grant_of id s.driver)) NotGranted
 
--- objections are raised in such a phase
+-- why a raise is refused: its phase takes no time
 unfoldable pub raise_refusal : Option Phase → Option Fatal
 raise_refusal phase = fault_if (not (in_task phase)) OutsideTask
 
--- and dropped there, no more than was raised
+-- why a drop is refused: its phase takes no time, or less was raised at the node
 unfoldable pub drop_refusal : Option Phase → ℕ → ℕ → Option Fatal
 drop_refusal phase raised count = first_given (fault_if (not (in_task phase)) OutsideTask ∷ fault_if (nat_lt raised count) ObjectionBelowZero ∷ [])
 
--- a drain time is set in any, and is not too long
+-- why a drain time is refused: it is longer than `most_ticks`; a drain time may be set in any phase
 unfoldable pub drain_refusal : ℕ → Option Fatal
 drain_refusal ticks = fault_if (nat_lt most_ticks ticks) OutOfRange
 
--- a wait is for such a phase, but one of no ticks is for any; and is not too long
+-- why a wait is refused: its phase takes no time and the wait is longer than 0 ticks, or it is longer than `most_ticks`
 unfoldable pub wait_refusal : Option Phase → ℕ → Option Fatal
 wait_refusal phase ticks = first_given (fault_if (nat_lt 0 ticks && not (in_task phase)) OutsideTask ∷ fault_if (nat_lt most_ticks ticks) OutOfRange ∷ [])
 

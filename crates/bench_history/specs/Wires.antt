@@ -1,4 +1,4 @@
--- What is connected, and which ports are unsound (IEEE 1800.2-2020, Clause 12).
+-- What is connected, and which ports are misconnected (IEEE 1800.2-2020, Clause 12).
 use Rattle.std.specs.Prelude.{ℕ, Bool, true, false, nat_eq, is_none, List, [], ◌∷◌, ◌++◌, length, map, Option, Some, None, option_map, option_and_then, if◌then◌else◌}
 use Rattle.std.specs.List.{list_any, after_first}
 use Rattle.uvm_glob.specs.Lists.{first_given, newest}
@@ -25,7 +25,7 @@ use Rattle.uvm_object.specs.declared.entries.Entry.{Entry}
 use Rattle.uvm_object.specs.declared.entries.Entry.TheVariants.{End as ended, Did, Note}
 use Rattle.bench_history.specs.History.{nodes_of}
 
--- what an addition is to connections
+-- the end of a connection that an addition adds
 abbrev pub end_of : What → End
 end_of (what.Sequencer mode) = end.Sequencer
 end_of (what.Fifo size) = end.Fifo size
@@ -33,11 +33,11 @@ end_of (what.Port kind) = end.Port kind
 end_of (what.Export kind) = end.Export kind
 end_of what.Imp = end.Imp
 
--- the node at a path below somebody, if there is one, and none beyond the limits of a path
+-- the node at a path below a performer, if there is one; none if the path exceeds the limits of a path
 unfoldable pub node_below : List Node → Who → List (List ℕ) → Option ℕ
 node_below nodes performer path = let whole = path_at nodes (node_of performer) ++ path in if is_none (path_fault whole) then number_at nodes whole else None
 
--- what can be connected there
+-- the end of a connection at a path below a performer, if there is one
 abbrev pub end_below : List Node → WiringValue → Who → List (List ℕ) → Option End
 end_below nodes wiring performer path = option_and_then (end_at wiring.ends) (node_below nodes performer path)
 
@@ -52,7 +52,7 @@ wiring_after nodes wiring performer Done (act.Add name what) = with_end (length 
 wiring_after nodes wiring performer Done (act.Connect from to) = with_both (node_below nodes performer from) (node_below nodes performer to) wiring
 wiring_after nodes wiring performer outcome act = wiring
 
--- what was added by accepted acts, and connected, before the ports are looked at
+-- the wiring by all accepted actions: what was added and connected; it is not closed
 abbrev pub wiring_of : List Entry → WiringValue
 wiring_of [] = new_wiring
 wiring_of (Did performer outcome act ∷ before) = wiring_after (nodes_of before) (wiring_of before) performer outcome act
@@ -67,31 +67,31 @@ ends_connect entry = false
 abbrev pub is_past_connect : List Entry → Bool
 is_past_connect history = list_any ends_connect history
 
--- the wiring as it is looked at once connect has nothing left: by the path order of all nodes
+-- the wiring as it is checked once connect has nothing left to do: closed by the path order of all nodes
 abbrev pub closed_wiring : List Entry → WiringValue
 closed_wiring history = record (wiring_of history) { order = Some (path_order (nodes_of history)) }
 
--- what is reported of a port, if something is wrong with it
+-- the fatal report for an error of a port, if there is an error
 abbrev pub port_fatal : Option WireFault → Option Fatal
 port_fatal None = None
 port_fatal (Some TooFew) = Some TooFewConnections
 port_fatal (Some fault) = Some TooManyConnections
 
--- a node, if it is an unsound port, with what is reported of it
+-- a node with its fatal report, if it is a misconnected port
 abbrev pub unsound_port : WiringValue → ℕ → Option (ℕ × Fatal)
 unsound_port wiring node = option_map (λ fatal. (node, fatal)) (port_fatal (wire_fault wiring node))
 
--- the port that an entry reports
+-- the misconnected port that an entry reports
 abbrev pub port_noted : Entry → Option ℕ
 port_noted (Note TooFewConnections node) = Some node
 port_noted (Note TooManyConnections node) = Some node
 port_noted entry = None
 
--- the nodes that were not looked at yet: those behind the port that was reported last
+-- the nodes that have not been checked: those that follow the port that was reported last
 abbrev pub behind : Option ℕ → List ℕ → List ℕ
 behind None order = order
 behind (Some node) order = after_first (nat_eq node) order
 
--- the next unsound port in path order
+-- the next misconnected port in path order, with its fatal report
 unfoldable pub next_unsound : List Entry → Option (ℕ × Fatal)
 next_unsound history = first_given (map (unsound_port (closed_wiring history)) (behind (option_and_then port_noted (newest history)) (path_order (nodes_of history))))

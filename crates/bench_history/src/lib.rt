@@ -1,16 +1,16 @@
-//! What the log of a testbench machine says, what may come next in it, and what a legal log is. Nothing is kept here: the definitions
-//! are those of `specs`, and the laws of all legal logs are functions that do nothing.
+//! The meaning of a log: what it says, what may come next in it, and what a legal log is. The crate holds no data: the definitions are in
+//! `specs`, and the laws of all legal logs are functions without run-time effect.
 #![tactic(auto)]
 
-mod askers;
+mod event_targets;
 pub mod laws;
 pub mod legal_logs;
 pub mod limits;
 mod needs;
-mod owners;
+mod requesters;
 mod stages;
 
-pub use askers::{Asker, DriverPort, Gate};
+pub use event_targets::{DueCall, EventTarget};
 pub use needs::Need;
-pub use owners::{Owner, Told};
-pub use stages::Stage;
+pub use requesters::{DriverPort, FifoPort, Requester};
+pub use stages::RunStage;

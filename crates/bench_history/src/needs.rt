@@ -1,16 +1,16 @@
-//! Objects that are needed.
+//! Objects that the kernel needs from the user.
 
 use uvm_factory::Kind;
 use uvm_glob::{Name, Path};
 
-/// An object that is needed: its kind, the type that the factory makes, and the path by which the factory knows it.
+/// A needed object: its kind, the type that the factory makes, and the path under which the factory knows it.
 #[derive(Drop)]
 pub struct Need {
-    /// Whether it is a component or a sequence.
+    /// The kind of the object: a component or a sequence.
     pub kind: Kind,
     /// The name of the type that the factory makes.
     pub type_name: Name,
-    /// A component's is that of the node at which it will stand; a sequence's that of its sequencer, with the names from its root
-    /// sequence down to itself behind.
+    /// For a component, the path of its future node. For a sequence, the path of its sequencer, followed by the names from its root sequence
+    /// down to itself.
     pub path: Path,
 }

@@ -1,16 +1,16 @@
-//! Where a run stands.
+//! The stage that a run has reached.
 
 use uvm_phase::Phase;
 
-/// Where a run stands.
+/// The stage that a run has reached.
 #[derive(Clone, Copy, PartialEq, Eq)]
-pub enum Stage {
-    /// No phase was begun.
+pub enum RunStage {
+    /// No phase has begun.
     Before,
-    /// This phase runs.
+    /// This phase was begun last and has not ended.
     During(Phase),
     /// This phase has ended, and the next has not begun.
     After(Phase),
-    /// The run is over.
+    /// The run has ended.
     Ended,
 }

@@ -1,31 +1,8 @@
 -- Who is to be held after an entry.
-use Rattle.std.proofs.Common.{◌≡◌, ◌≢◌, ◌∙◌, ◌<◌, ◌≤◌, ◌+◌, ℕ, zero, suc, Bool, true, false, ◌==◌, List, [], ◌∷◌, length, get_or, Option, Some, None, option_map, inl, inr, refl, sym, ap, subst, arith, if◌then◌else◌}
-use Rattle.std.proofs.lemmas.Bool.Decides.{nat_tests}
-use Rattle.std.proofs.lemmas.List.{length-append}
-use Rattle.std.proofs.lemmas.List.Elements.{All-contains, All-head, All-nil, All-push, All-tail, All-weaker, Contains-append_left, Contains-get_or, Contains-push}
-use Rattle.std.proofs.lemmas.List.Sorted.{Contains-permutation}
-use Rattle.std.proofs.lemmas.Option.{same_Some}
-use Rattle.std.specs.Prelude.{◌⊎◌, All, Contains}
-use Rattle.std.specs.List.Sorted.{IsPermutation}
-use Rattle.uvm_sequences.specs.Sequences.{numbered}
-use Rattle.uvm_object.specs.Objects.{life_of, same_who}
-use Rattle.uvm_acts.specs.declared.acts.Who.{Who}
-use Rattle.uvm_acts.specs.declared.acts.Who.TheVariants.{Node, Sequence}
-use Rattle.uvm_acts.specs.declared.acts.Act.{Act}
-use Rattle.uvm_object.specs.declared.entries.Outcome.{Outcome}
-use Rattle.uvm_object.specs.declared.entries.Outcome.TheVariants.{Made, Started}
-use Rattle.uvm_object.specs.declared.entries.Entry.{Entry}
-use Rattle.uvm_object.specs.declared.entries.Entry.TheVariants.{Did, Over}
-use Rattle.bench_script.specs.Scripts.{ScriptValue}
+use Rattle.bench_kernel.proofs.Common.{◌≡◌, ◌≢◌, ◌∙◌, ◌<◌, ◌≤◌, ◌+◌, ℕ, zero, suc, Bool, true, false, ◌==◌, List, [], ◌∷◌, length, get_or, Option, Some, None, option_map, inl, inr, refl, sym, ap, subst, arith, if◌then◌else◌, nat_tests, length-append, All-contains, All-head, All-nil, All-push, All-tail, All-weaker, Contains-append_left, Contains-get_or, Contains-push, Contains-permutation, same_Some, All, Contains, IsPermutation, numbered, life_of, same_who, Who, Node, Sequence, Act, Outcome, Made, Started, Entry, Did, ScriptValue, components_of, is_over, nodes_of, StartRecord, all_begun, starts_of, leaving_of, sequences_of, start_by, EachIsNext, next_of, AreLeaving, HasBegun, HasGrown, IsLiving, IsLivingSequence, IsMadeBy, LivingLived, number_of, made_who, AreAllHeld, AreToldNext, HasEnded, WasMade, types_made, LogLaws, ◌⊎◌}
+use Rattle.uvm_object.specs.declared.entries.Entry.TheVariants.{Over}
 use Rattle.bench_history.specs.declared.needs.Need as declared
-use Rattle.bench_history.specs.History.{components_of, is_over, nodes_of}
-use Rattle.bench_history.specs.Sequences.{Beginning, all_begun, begun_of, leaving_of, sequences_of, start_by}
 use Rattle.bench_history.specs.Cases.{Need}
-use Rattle.bench_history.specs.Next.{EachIsNext, next_of}
-use Rattle.bench_history.specs.Laws.{AreLeaving, HasBegun, HasGrown, IsLiving, IsLivingSequence, IsMadeBy, LivingLived, number_of}
-use Rattle.bench_core.specs.Worlds.{made_who}
-use Rattle.bench_kernel.specs.Kernels.{AreAllHeld, AreToldNext, HasEnded, WasMade, types_made}
-use Rattle.bench_kernel.specs.Laws.{LogLaws}
 use Rattle.bench_kernel.proofs.Numbers.{eq-apart}
 
 -- one that has a number is one of those that are numbered
@@ -38,22 +15,22 @@ numbered-within (y ∷ older) n x e = tested (n == length (y ∷ older)) refl e 
     tested false is found within = let low = within found in omega (arith, low)
 
 -- a sequence that lives was started
-living-number : (history : List Entry) (id home : ℕ) → IsLiving history id home → id ≤ length (begun_of history)
-living-number history id home living = go (numbered (begun_of history) id) refl living.home_is
+living-number : (history : List Entry) (id home : ℕ) → IsLiving history id home → id ≤ length (starts_of history)
+living-number history id home living = go (numbered (starts_of history) id) refl living.home_is
   where
-    go : (found : Option Beginning) → numbered (begun_of history) id ≡ found → option_map (λ beginning. beginning.start.home) found ≡ Some home → id ≤ length (begun_of history)
+    go : (found : Option StartRecord) → numbered (starts_of history) id ≡ found → option_map (λ start_record. start_record.start.home) found ≡ Some home → id ≤ length (starts_of history)
     go None is home_is = cc
-    go (Some beginning) is home_is = numbered-within (begun_of history) id beginning is
+    go (Some start_record) is home_is = numbered-within (starts_of history) id start_record is
 
 -- where no sequence is started each that lives lived before
-pub living-stays : LivingLived → (entry : Entry) (history : List Entry) → begun_of (entry ∷ history) ≡ begun_of history → (id home : ℕ) → IsLiving (entry ∷ history) id home → IsLiving history id home
+pub living-stays : LivingLived → (entry : Entry) (history : List Entry) → starts_of (entry ∷ history) ≡ starts_of history → (id home : ℕ) → IsLiving (entry ∷ history) id home → IsLiving history id home
 living-stays lived entry history same id home living =
-    lived entry history id home (subst (λ (begun : List Beginning). id ≤ length begun) same (living-number (entry ∷ history) id home living)) living
+    lived entry history id home (subst (λ (begun : List StartRecord). id ≤ length begun) same (living-number (entry ∷ history) id home living)) living
 
 -- where one is, it is that one that lives besides
-pub living-more : LivingLived → (history : List Entry) (performer : Who) (act : Act) (new id home : ℕ) → new ≡ suc (length (begun_of history)) → IsLiving (Did performer (Started new) act ∷ history) id home
+pub living-more : LivingLived → (history : List Entry) (performer : Who) (act : Act) (new id home : ℕ) → new ≡ suc (length (starts_of history)) → IsLiving (Did performer (Started new) act ∷ history) id home
     → IsLiving history id home ⊎ (Sequence home id ≡ Sequence (start_by (nodes_of history) (sequences_of history) performer act).home new)
-living-more lived history performer act new id home number living = go (id == suc (length (begun_of history))) refl
+living-more lived history performer act new id home number living = go (id == suc (length (starts_of history))) refl
   where
     entry : Entry
     entry = Did performer (Started new) act
@@ -61,43 +38,43 @@ living-more lived history performer act new id home number living = go (id == su
     place : ℕ
     place = (start_by (nodes_of history) (sequences_of history) performer act).home
 
-    go : (same : Bool) → (id == suc (length (begun_of history))) ≡ same → IsLiving history id home ⊎ (Sequence home id ≡ Sequence (start_by (nodes_of history) (sequences_of history) performer act).home new)
+    go : (same : Bool) → (id == suc (length (starts_of history))) ≡ same → IsLiving history id home ⊎ (Sequence home id ≡ Sequence (start_by (nodes_of history) (sequences_of history) performer act).home new)
     go true is =
         let id_is : id ≡ new = grind (arith, nat_tests, is, number) in
         let at : Some (start_by (nodes_of history) (sequences_of history) performer act).home ≡ Some home = rw is at living.home_is in
         let home_is : home ≡ (start_by (nodes_of history) (sequences_of history) performer act).home = sym (same_Some (start_by (nodes_of history) (sequences_of history) performer act).home home at) in
         inr (ap (Sequence home) id_is ∙ ap (λ h. Sequence h new) home_is)
     go false is =
-        let within : id ≤ suc (length (begun_of history)) = living-number (Did performer (Started new) act ∷ history) id home living in
-        let low : id ≤ length (begun_of history) = grind (arith, nat_tests, is, within) in
+        let within : id ≤ suc (length (starts_of history)) = living-number (Did performer (Started new) act ∷ history) id home living in
+        let low : id ≤ length (starts_of history) = grind (arith, nat_tests, is, within) in
         inl (lived (Did performer (Started new) act) history id home low living)
 
 -- each that was started has a number of those
-pub all-numbered : (begun : List Beginning) → All (λ who. number_of who ≤ length begun) (all_begun begun)
+pub all-numbered : (begun : List StartRecord) → All (λ who. number_of who ≤ length begun) (all_begun begun)
 all-numbered [] = All-nil (λ who. number_of who ≤ 0)
-all-numbered (beginning ∷ older) =
-    All-push (λ who. number_of who ≤ length (beginning ∷ older)) (all_begun older) (Sequence beginning.start.home (length (beginning ∷ older)))
-    (All-weaker (λ who. number_of who ≤ length older) (λ who. number_of who ≤ length (beginning ∷ older)) (λ who low. omega (arith, low)) (all_begun older) (all-numbered older))
+all-numbered (start_record ∷ older) =
+    All-push (λ who. number_of who ≤ length (start_record ∷ older)) (all_begun older) (Sequence start_record.start.home (length (start_record ∷ older)))
+    (All-weaker (λ who. number_of who ≤ length older) (λ who. number_of who ≤ length (start_record ∷ older)) (λ who low. omega (arith, low)) (all_begun older) (all-numbered older))
     (omega arith)
 
 -- where no component was made and no sequence started, who was made is who had been
-pub WasMade-same : (history later : List Entry) → components_of later ≡ components_of history → begun_of later ≡ begun_of history → (who : Who) → WasMade history who → WasMade later who
+pub WasMade-same : (history later : List Entry) → components_of later ≡ components_of history → starts_of later ≡ starts_of history → (who : Who) → WasMade history who → WasMade later who
 WasMade-same history later components begun (Node node) made = subst (λ nodes. Contains nodes node) (sym components) made
-WasMade-same history later components begun (Sequence home id) made = subst (λ (begun : List Beginning). Contains (all_begun begun) (Sequence home id)) (sym begun) made
+WasMade-same history later components begun (Sequence home id) made = subst (λ (begun : List StartRecord). Contains (all_begun begun) (Sequence home id)) (sym begun) made
 
 -- and the types are those that were made
-pub types-same : (script : ScriptValue) (entry : Entry) (history : List Entry) → components_of (entry ∷ history) ≡ components_of history → begun_of (entry ∷ history) ≡ begun_of history
+pub types-same : (script : ScriptValue) (entry : Entry) (history : List Entry) → components_of (entry ∷ history) ≡ components_of history → starts_of (entry ∷ history) ≡ starts_of history
     → types_made script (entry ∷ history) ≡ types_made script history
 types-same script (Did performer (Made type_name) act) history components begun =
     let counts : length (components_of history) + length (length (nodes_of history) ∷ []) ≡ length (components_of history) = sym (length-append (components_of history) (length (nodes_of history) ∷ [])) ∙ ap length components in
     absurd (omega (arith, counts))
 types-same script (Did performer (Started id) act) history components begun =
-    let counts : suc (length (begun_of history)) ≡ length (begun_of history) = ap (λ (b : List Beginning). length b) begun in
+    let counts : suc (length (starts_of history)) ≡ length (starts_of history) = ap (λ (b : List StartRecord). length b) begun in
     absurd (omega (arith, counts))
 types-same script (Did performer outcome act) history components begun = refl
 types-same script entry history components begun = refl
 
--- after the end of a run nobody is to be told
+-- after the end of a run no component or sequence is to be told
 over-tells-none : (entry : Entry) (history : List Entry) → is_over (entry ∷ history) ≡ true → leaving_of (entry ∷ history) ≡ []
 over-tells-none (Over reason) history over = refl
 over-tells-none entry history over = cc
@@ -140,8 +117,8 @@ leavers-held history leaving left held lived were = All-weaker (IsLivingSequence
     go (Node node) living = absurd living
     go (Sequence home id) living = were.living id home living
 
--- an entry that makes nobody
-pub AreAllHeld-later : LivingLived → (entry : Entry) (history : List Entry) (leaving held : List Who) → components_of (entry ∷ history) ≡ components_of history → begun_of (entry ∷ history) ≡ begun_of history → AreLeaving history entry
+-- an entry that makes no component or sequence
+pub AreAllHeld-later : LivingLived → (entry : Entry) (history : List Entry) (leaving held : List Who) → components_of (entry ∷ history) ≡ components_of history → starts_of (entry ∷ history) ≡ starts_of history → AreLeaving history entry
     → AreAllHeld history leaving held → AreAllHeld (entry ∷ history) (leaving_of (entry ∷ history)) held
 AreAllHeld-later lived entry history leaving held components begun leave were = record {
   components = subst (All (λ node. Contains held (Node node))) (sym components) were.components;
@@ -149,7 +126,7 @@ AreAllHeld-later lived entry history leaving held components begun leave were = 
   ended = leavers-held history leaving (leaving_of (entry ∷ history)) held leave.lived were;
 }
 
--- somebody new, and what follows for those who were there
+-- a new component or sequence, and what follows for those who were there
 pub record HasCome (script : ScriptValue) (history : List Entry) (entry : Entry) (type_name : List ℕ) (who : Who) : Type 0 where
   pub made : WasMade (entry ∷ history) who
   pub others : (other : Who) → WasMade history other → WasMade (entry ∷ history) other
@@ -159,7 +136,7 @@ pub record HasCome (script : ScriptValue) (history : List Entry) (entry : Entry)
   pub components : All (λ node. Contains (components_of history) node ⊎ (Node node ≡ who)) (components_of (entry ∷ history))
   pub living : (id home : ℕ) → IsLiving (entry ∷ history) id home → IsLiving history id home ⊎ (Sequence home id ≡ who)
 
--- an entry that makes somebody, who is held from then on
+-- an entry that makes a component or sequence, who is held from then on
 pub AreAllHeld-come : (script : ScriptValue) (entry : Entry) (history : List Entry) (leaving held more : List Who) (type_name : List ℕ) (who : Who) → ((other : Who) → Contains held other → Contains more other) → Contains more who → AreLeaving history entry
     → HasCome script history entry type_name who → AreAllHeld history leaving held → AreAllHeld (entry ∷ history) (leaving_of (entry ∷ history)) more
 AreAllHeld-come script entry history leaving held more type_name who keeps there leave come were = record {
@@ -202,7 +179,7 @@ AreAllHeld-told history (Sequence home id) others held rest leaving is same told
       ended = λ k d h. still (get_or others k d) (λ e. let more = tells.rising.0 k d h in let same_number = ap number_of e in omega (arith, more, same_number)) (held_still k d h);
     }
 
--- what the laws say of somebody new
+-- what the laws say of a new component or sequence
 module _ (laws : LogLaws) (script : ScriptValue) (history : List Entry) (each : EachIsNext script history) where
   -- a component that was made is no new node
   component-apart : (node : ℕ) (other : Who) → node ≡ length (nodes_of history) → WasMade history other → same_who (Node node) other ≡ false
@@ -231,10 +208,10 @@ module _ (laws : LogLaws) (script : ScriptValue) (history : List Entry) (each : 
       others (Sequence home id) made = made
 
   -- nor is a sequence that was started the new one
-  sequence-apart : (id home : ℕ) (other : Who) → id ≡ suc (length (begun_of history)) → WasMade history other → same_who (Sequence home id) other ≡ false
+  sequence-apart : (id home : ℕ) (other : Who) → id ≡ suc (length (starts_of history)) → WasMade history other → same_who (Sequence home id) other ≡ false
   sequence-apart id home (Node other) new made = refl
   sequence-apart id home (Sequence there other) new made =
-      let below : other ≤ length (begun_of history) = All-contains (λ who. number_of who ≤ length (begun_of history)) (all_begun (begun_of history)) (Sequence there other) (all-numbered (begun_of history)) made in
+      let below : other ≤ length (starts_of history) = All-contains (λ who. number_of who ≤ length (starts_of history)) (all_begun (starts_of history)) (Sequence there other) (all-numbered (starts_of history)) made in
       rw (eq-apart id other (λ e. omega (arith, e, below, new))) refl
 
   sequence-come : (need : declared.Need) (id : ℕ) (performer : Who) (act : Act) → next_of script history ≡ Need need (Started id) performer act → HasBegun history id performer act (Did performer (Started id) act)
@@ -242,7 +219,7 @@ module _ (laws : LogLaws) (script : ScriptValue) (history : List Entry) (each : 
   sequence-come need id performer act needs begun =
       let home : ℕ = (start_by (nodes_of history) (sequences_of history) performer act).home in
       record {
-        made = subst (λ all. Contains all (Sequence home id)) (sym begun.all) (Contains-push (all_begun (begun_of history)) (Sequence home id));
+        made = subst (λ all. Contains all (Sequence home id)) (sym begun.all) (Contains-push (all_begun (starts_of history)) (Sequence home id));
         others = others;
         apart = λ other made. sequence-apart id home other begun.number made;
         unasked = laws.unasked_sequences script history id home each (let number = begun.number in omega (arith, number));
@@ -255,7 +232,7 @@ module _ (laws : LogLaws) (script : ScriptValue) (history : List Entry) (each : 
       others (Node other) made = made
       others (Sequence there other) made =
           subst (λ all. Contains all (Sequence there other)) (sym begun.all)
-          (Contains-append_left (all_begun (begun_of history)) (Sequence (start_by (nodes_of history) (sequences_of history) performer act).home id ∷ []) (Sequence there other) made)
+          (Contains-append_left (all_begun (starts_of history)) (Sequence (start_by (nodes_of history) (sequences_of history) performer act).home id ∷ []) (Sequence there other) made)
 
   -- the type that is made is that of the need
   type-wanted : (need : declared.Need) (type_name : List ℕ) (performer : Who) (act : Act) → next_of script history ≡ Need need (Made type_name) performer act → type_name ≡ need.type_name

@@ -1,18 +1,6 @@
 -- What is given back once a kernel is done: the sequences first, and then the components.
-use Rattle.std.proofs.Common.{◌≡◌, ◌++◌, ℕ, true, Bool, List, [], ◌∷◌, Option, Some, None, IfSome, IfNone}
-use Rattle.std.proofs.lemmas.List.Sorted.{IsPermutation-middle, IsPermutation-sym}
-use Rattle.std.specs.List.Sorted.{IsPermutation}
-use Rattle.std.specs.Map.{keys_of}
-use Rattle.uvm_object.specs.Objects.{View, Says}
-use Rattle.uvm_acts.specs.declared.acts.Who.{Who}
-use Rattle.uvm_object.specs.declared.entries.Entry.{Entry}
-use Rattle.bench_history.specs.History.{nodes_of}
-use Rattle.bench_core.specs.Cores.{CoreValue}
-use Rattle.bench_kernel.specs.Kernels.{AreSeated, IsKernel, KernelValue, is_done}
-use Rattle.bench_kernel.specs.Orders.{IsFirstBack}
-use Rattle.bench_kernel.specs.Seating.{all_held}
-use Rattle.object_seats.specs.Seats.{IsTakenOut, Taken, held_in, paths_in}
-use Rattle.bench_kernel.proofs.Kept.{kept-given}
+use Rattle.bench_kernel.proofs.Common.{◌≡◌, ◌++◌, ℕ, true, Bool, List, [], ◌∷◌, Option, Some, None, IsPermutation-middle, IsPermutation-sym, IsPermutation, keys_of, View, Says, Who, Entry, nodes_of, CoreValue, AreSeated, IsKernel, KernelValue, is_done, IsFirstBack, all_held, IsTakenOut, Taken, held_in, paths_in, IfSome, IfNone}
+use Rattle.bench_kernel.proofs.Preserved.{kept-given}
 use Rattle.bench_kernel.proofs.Seated.{seated-first, seated-out}
 use Rattle.bench_kernel.proofs.Sitting.{first-component, out-held}
 

@@ -1,24 +1,6 @@
 -- Who is held, and at which paths, after each change.
-use Rattle.std.proofs.Common.{◌≡◌, ◌∙◌, ◌<◌, ◌++◌, ℕ, zero, suc, Bool, false, List, [], ◌∷◌, length, get_or, Result, refl, ap, arith}
-use Rattle.std.proofs.lemmas.List.Elements.{All-cons, All-head, All-tail, All-weaker}
-use Rattle.std.proofs.lemmas.List.Sorted.{All-permutation, Contains-permutation, IsPermutation-map, IsPermutation-sym, IsPermutation-trans}
-use Rattle.std.proofs.lemmas.Map.Keys.{IsDistinct-cons, IsDistinct-tail, IsDistinct-IsPermutation}
-use Rattle.std.specs.Prelude.{All, Contains}
-use Rattle.std.specs.List.Sorted.{IsPermutation}
-use Rattle.std.specs.Map.{keys_of}
-use Rattle.std.specs.declared.alloc.AllocError.{AllocError}
+use Rattle.bench_kernel.proofs.Common.{◌≡◌, ◌∙◌, ◌<◌, ◌++◌, ℕ, zero, suc, Bool, false, List, [], ◌∷◌, length, get_or, Result, refl, ap, arith, All-cons, All-head, All-tail, All-weaker, All-permutation, Contains-permutation, IsPermutation-map, IsPermutation-sym, IsPermutation-trans, IsDistinct-cons, IsDistinct-tail, IsDistinct-IsPermutation, All, Contains, IsPermutation, keys_of, AllocError, path_at, View, Says, same_who, Who, Call, Act, Entry, ScriptValue, nodes_of, NodesStay, IsAsked, AreAllHeld, AreHeld, WasMade, types_made}
 use Rattle.uvm_tree.specs.Nodes as declared
-use Rattle.uvm_tree.specs.Nodes.{path_at}
-use Rattle.uvm_object.specs.Objects.{View, Says, same_who}
-use Rattle.uvm_acts.specs.declared.acts.Who.{Who}
-use Rattle.uvm_acts.specs.declared.acts.Call.{Call}
-use Rattle.uvm_acts.specs.declared.acts.Act.{Act}
-use Rattle.uvm_object.specs.declared.entries.Entry.{Entry}
-use Rattle.bench_script.specs.Scripts.{ScriptValue}
-use Rattle.bench_history.specs.History.{nodes_of}
-use Rattle.bench_history.specs.Laws.{NodesStay}
-use Rattle.object_seats.specs.Asked.{IsAsked}
-use Rattle.bench_kernel.specs.Kernels.{AreAllHeld, AreHeld, WasMade, types_made}
 use Rattle.bench_kernel.proofs.Custody.{AreAllHeld-more}
 use Rattle.bench_kernel.proofs.Lists.{recursion-from_All}
 use Rattle.bench_kernel.proofs.Lives.{same_who-flips}
@@ -37,7 +19,7 @@ module _ {O : Type 0} (name : O → List ℕ) where
   abbrev HasType : ScriptValue → List Entry → Who × O → Type 0
   HasType script history seat = Contains (types_made script history) (seat.0, name seat.1)
 
-  -- nobody was made
+  -- no component or sequence was made
   pub AreHeld-later : (done more : Bool) (script : ScriptValue) (history later : List Entry) (leaving left : List Who) (held : List (Who × O)) → ((who : Who) → WasMade history who → WasMade later who) → types_made script later ≡ types_made script history
       → (more ≡ false → AreAllHeld later left (keys_of held)) → AreHeld name done script history leaving held → AreHeld name more script later left held
   AreHeld-later done more script history later leaving left held made types whole were = record {
@@ -64,7 +46,7 @@ module _ {O : Type 0} (name : O → List ℕ) where
         whole = λ on. AreAllHeld-more history leaving (keys_of old) (keys_of new) (λ other there. Contains-permutation (keys_of old) (keys_of new) other keys there) (were.whole on);
       }
 
-  -- somebody was made, and the object was supplied
+  -- a component or sequence was made, and the object was supplied
   pub AreHeld-come : (script : ScriptValue) (history later : List Entry) (leaving left : List Who) (held new : List (Who × O)) (done more : Bool) (who : Who) (object : O) → IsPermutation ((who, object) ∷ held) new → WasMade later who
       → ((other : Who) → WasMade history other → WasMade later other) → ((other : Who) → WasMade history other → same_who who other ≡ false) → types_made script later ≡ (who, name object) ∷ types_made script history
       → (more ≡ false → AreAllHeld later left (keys_of new)) → AreHeld name done script history leaving held → AreHeld name more script later left new

@@ -1,13 +1,16 @@
-pub mod Lists
-pub mod Numbers
-pub mod Rising
+mod Common
 pub mod Custody
-pub mod Lives
-pub mod Sitting
+pub mod Given
 pub mod Held
-pub mod Kept
+pub mod Lists
+pub mod Lives
+pub mod Newcomers
+pub mod Numbers
+mod Places
+pub mod Preserved
+pub mod Rising
 pub mod Seated
+mod Sitters
+pub mod Sitting
 pub mod Stepped
 pub mod Supplied
-pub mod Given
-pub mod Newcomers

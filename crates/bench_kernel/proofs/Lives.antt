@@ -1,25 +1,5 @@
 -- How the lives of the objects go on.
-use Rattle.std.proofs.Common.{◌≡◌, ◌≢◌, ℕ, true, false, List, [], ◌∷◌, get_or, Option, Some, None, Ok, Result, refl, sym, subst, arith}
-use Rattle.std.proofs.lemmas.Bool.Decides.{nat_tests}
-use Rattle.std.proofs.lemmas.List.Elements.{All-cons, All-head, All-tail, All-weaker}
-use Rattle.std.proofs.lemmas.List.Sorted.{All-permutation, IsPermutation-map, IsPermutation-sym}
-use Rattle.std.proofs.lemmas.Map.Keys.{IsDistinct-head, IsDistinct-IsPermutation}
-use Rattle.std.proofs.lemmas.Option.{none-some}
-use Rattle.std.specs.Prelude.{All}
-use Rattle.std.specs.List.{IsDistinct}
-use Rattle.std.specs.List.Sorted.{IsPermutation}
-use Rattle.std.specs.Map.{keys_of}
-use Rattle.std.specs.declared.alloc.AllocError.{AllocError}
-use Rattle.uvm_object.specs.declared.entries.Origin.{Origin}
-use Rattle.uvm_acts.specs.declared.acts.Who.{Who}
-use Rattle.uvm_acts.specs.declared.acts.Who.TheVariants.{Node, Sequence}
-use Rattle.uvm_acts.specs.declared.acts.Call.{Call}
-use Rattle.uvm_acts.specs.declared.acts.Act.{Act}
-use Rattle.uvm_object.specs.declared.entries.Entry.{Entry}
-use Rattle.uvm_object.specs.declared.entries.Entry.TheVariants.{Heard}
-use Rattle.uvm_object.specs.Objects.{View, Says, SameSays, Exchange, IsHonest, IsHonestNow, exchanged_in, life_of, same_who}
-use Rattle.object_seats.specs.Asked.{IsAsked}
-use Rattle.bench_kernel.specs.Kernels.{LiveHonestly}
+use Rattle.bench_kernel.proofs.Common.{◌≡◌, ◌≢◌, ℕ, true, false, List, [], ◌∷◌, get_or, Option, Some, None, Ok, Result, refl, sym, subst, arith, nat_tests, All-cons, All-head, All-tail, All-weaker, All-permutation, IsPermutation-map, IsPermutation-sym, IsDistinct-head, IsDistinct-IsPermutation, none-some, All, IsDistinct, IsPermutation, keys_of, AllocError, Origin, Who, Node, Sequence, Call, Act, Entry, Heard, View, Says, SameSays, Exchange, IsHonest, IsHonestNow, exchanged_in, life_of, same_who, IsAsked, LiveHonestly}
 use Rattle.bench_kernel.proofs.Lists.{All-from_recursion, All-unmap}
 use Rattle.bench_kernel.proofs.Numbers.{eq-flips, eq-self}
 
@@ -103,7 +83,7 @@ module _ {O : Type 0} (view : O → View) (name : O → List ℕ) (says : O → 
       (All-cons (Lives (Some performer) history) (performer, asked.after) asked.others (λ known. absurd (known refl))
       (All-weaker (Lives None history) (Lives (Some performer) history) (λ seat lives known. lives (λ n. none-some seat.0 n)) asked.others (All-tail (Lives None history) (performer, asked.before) asked.others were)))
 
-  -- an entry that is nobody's answer leaves each life
+  -- an entry that is not an answer leaves each life
   pub LiveHonestly-silent : (entry : Entry) (history : List Entry) (held : List (Who × O)) (unknown : Option Who) → ((hearer : Who) → exchanged_in hearer entry ≡ [])
       → LiveHonestly view says held unknown history → LiveHonestly view says held unknown (entry ∷ history)
   LiveHonestly-silent entry history held unknown silent honest =

@@ -1,30 +1,7 @@
 -- Who was made, after an entry.
-use Rattle.std.proofs.Common.{◌≡◌, ◌∙◌, ◌≤◌, ◌⊎◌, ap, ℕ, false, List, [], ◌∷◌, length, arith, Option, Some, None, inl, inr, refl, sym, subst}
-use Rattle.std.proofs.lemmas.List.Elements.{All-cons, All-contains, All-nil, All-weaker, Contains-push_cases}
-use Rattle.std.proofs.lemmas.Map.Keys.{IsDistinct-cons, IsDistinct-from_apart}
-use Rattle.std.proofs.lemmas.Option.{same_Some}
-use Rattle.std.specs.Prelude.{All, Contains}
-use Rattle.std.specs.List.{IsDistinct}
-use Rattle.std.specs.Map.{keys_of}
-use Rattle.uvm_object.specs.Objects.{same_who}
-use Rattle.uvm_object.specs.declared.fatals.Fatal.TheVariants.{NoObject}
-use Rattle.uvm_object.specs.declared.entries.Outcome.TheVariants.{Made, Refused, Started}
-use Rattle.bench_history.specs.History.{components_of}
-use Rattle.bench_history.specs.Sequences.{Beginning, all_begun, begun_of}
-use Rattle.uvm_acts.specs.declared.acts.Who.{Who}
-use Rattle.uvm_acts.specs.declared.acts.Who.TheVariants.{Sequence}
-use Rattle.uvm_acts.specs.declared.acts.Act.{Act}
-use Rattle.uvm_object.specs.declared.entries.Outcome.{Outcome}
-use Rattle.uvm_object.specs.declared.entries.Entry.{Entry}
-use Rattle.uvm_object.specs.declared.entries.Entry.TheVariants.{Did, Granted, Heard}
-use Rattle.bench_script.specs.Scripts.{ScriptValue}
+use Rattle.bench_kernel.proofs.Common.{◌≡◌, ◌∙◌, ◌≤◌, ap, ℕ, false, List, [], ◌∷◌, length, arith, Option, Some, None, inl, inr, refl, sym, subst, All-cons, All-contains, All-nil, All-weaker, Contains-push_cases, IsDistinct-cons, IsDistinct-from_apart, same_Some, All, Contains, IsDistinct, keys_of, same_who, NoObject, Made, Refused, Started, components_of, StartRecord, all_begun, starts_of, Who, Sequence, Act, Outcome, Entry, Did, Granted, Heard, ScriptValue, Next, Exactly, Answer, Allows, EachIsNext, made_in, need_in, next_of, IsMachines, number_of, made_who, WasMade, needed_type, types_made, IsMadeNew, LogLaws, MadeAreNew, NobodyIsMadeTwice, OthersMakeNobody, ◌⊎◌}
 use Rattle.bench_history.specs.declared.needs.Need as declared
-use Rattle.bench_history.specs.Cases.{Next, Exactly, Answer, Need, Grant, Nothing}
-use Rattle.bench_history.specs.Next.{Allows, EachIsNext, made_in, need_in, next_of}
-use Rattle.bench_history.specs.Laws.{IsMachines, number_of}
-use Rattle.bench_core.specs.Worlds.{made_who}
-use Rattle.bench_kernel.specs.Kernels.{WasMade, needed_type, types_made}
-use Rattle.bench_kernel.specs.Laws.{IsMadeNew, LogLaws, MadeAreNew, NobodyIsMadeTwice, OthersMakeNobody}
+use Rattle.bench_history.specs.Cases.{Need, Grant, Nothing}
 use Rattle.bench_kernel.proofs.Custody.{HasCome, WasMade-same, all-numbered, has-come, types-same}
 use Rattle.bench_kernel.proofs.Lists.{recursion-from_All}
 
@@ -59,7 +36,7 @@ record AreOnce (script : ScriptValue) (history : List Entry) : Type 0 where
   were : All (WasMade history) (keys_of (types_made script history))
   once : IsDistinct same_who (keys_of (types_made script history))
 
-once-same : (script : ScriptValue) (entry : Entry) (history : List Entry) → components_of (entry ∷ history) ≡ components_of history → begun_of (entry ∷ history) ≡ begun_of history
+once-same : (script : ScriptValue) (entry : Entry) (history : List Entry) → components_of (entry ∷ history) ≡ components_of history → starts_of (entry ∷ history) ≡ starts_of history
     → AreOnce script history → AreOnce script (entry ∷ history)
 once-same script entry history components begun once =
     let types : types_made script (entry ∷ history) ≡ types_made script history = types-same script entry history components begun in
@@ -108,15 +85,15 @@ module _ (laws : LogLaws) (script : ScriptValue) where
   once-all (entry ∷ history) each = once-later entry history each.1 each.0 (once-all history each.1)
 
 -- each number of a sequence has one sequencer
-one-home : (begun : List Beginning) (id home other : ℕ) → Contains (all_begun begun) (Sequence home id) → Contains (all_begun begun) (Sequence other id) → home ≡ other
+one-home : (begun : List StartRecord) (id home other : ℕ) → Contains (all_begun begun) (Sequence home id) → Contains (all_begun begun) (Sequence other id) → home ≡ other
 one-home [] id home other first second = absurd (omega (arith, first.1))
-one-home (beginning ∷ older) id home other first second =
+one-home (start_record ∷ older) id home other first second =
     go (one-home older id home other) (Contains-push_cases (all_begun older) newest (Sequence home id) first) (Contains-push_cases (all_begun older) newest (Sequence other id) second)
   where
     newest : Who
-    newest = Sequence beginning.start.home (length (beginning ∷ older))
+    newest = Sequence start_record.start.home (length (start_record ∷ older))
 
-    higher : {A : Type 0} (at : ℕ) → Contains (all_begun older) (Sequence at id) → length (beginning ∷ older) ≡ id → A
+    higher : {A : Type 0} (at : ℕ) → Contains (all_begun older) (Sequence at id) → length (start_record ∷ older) ≡ id → A
     higher at there is =
         let low : id ≤ length older = All-contains (λ who. number_of who ≤ length older) (all_begun older) (Sequence at id) (all-numbered older) there in
         absurd (omega (arith, low, is))
@@ -124,14 +101,14 @@ one-home (beginning ∷ older) id home other first second =
     go : (Contains (all_begun older) (Sequence home id) → Contains (all_begun older) (Sequence other id) → home ≡ other) → Contains (all_begun older) (Sequence home id) ⊎ (newest ≡ Sequence home id)
         → Contains (all_begun older) (Sequence other id) ⊎ (newest ≡ Sequence other id) → home ≡ other
     go earlier (inl there) (inl here) = earlier there here
-    go earlier (inl there) (inr is) = let number : length (beginning ∷ older) ≡ id = cc in higher home there number
-    go earlier (inr is) (inl there) = let number : length (beginning ∷ older) ≡ id = cc in higher other there number
+    go earlier (inl there) (inr is) = let number : length (start_record ∷ older) ≡ id = cc in higher home there number
+    go earlier (inr is) (inl there) = let number : length (start_record ∷ older) ≡ id = cc in higher other there number
     go earlier (inr is) (inr also) = let both : Sequence home id ≡ Sequence other id = sym is ∙ also in cc
 
 once-numbers : (script : ScriptValue) (history : List Entry) → AreOnce script history → (id home other : ℕ) → Contains (keys_of (types_made script history)) (Sequence home id)
     → Contains (keys_of (types_made script history)) (Sequence other id) → home ≡ other
 once-numbers script history once id home other first second =
-    one-home (begun_of history) id home other (All-contains (WasMade history) (keys_of (types_made script history)) (Sequence home id) once.were first)
+    one-home (starts_of history) id home other (All-contains (WasMade history) (keys_of (types_made script history)) (Sequence home id) once.were first)
     (All-contains (WasMade history) (keys_of (types_made script history)) (Sequence other id) once.were second)
 
 pub nobody-is-made-twice : LogLaws → NobodyIsMadeTwice

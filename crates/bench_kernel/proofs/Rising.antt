@@ -1,12 +1,5 @@
 -- The numbers of the sequences that sit rise, whoever is seated or leaves.
-use Rattle.std.proofs.Common.{◌≡◌, ◌∙◌, ◌<◌, ◌≤◌, ◌+◌, ℕ, List, [], ◌∷◌, ◌++◌, map, refl, sym, ap, subst, arith}
-use Rattle.std.proofs.lemmas.List.{map-append}
-use Rattle.std.proofs.lemmas.List.Elements.{All-cons, All-nil, All-weaker}
-use Rattle.std.specs.Prelude.{All}
-use Rattle.std.specs.Map.{keys_of}
-use Rattle.uvm_acts.specs.declared.acts.Who.{Who}
-use Rattle.uvm_acts.specs.declared.acts.Who.TheVariants.{Node, Sequence}
-use Rattle.object_seats.specs.SequenceSeats.{AreRisingWithin, IsWithout}
+use Rattle.bench_kernel.proofs.Common.{◌≡◌, ◌∙◌, ◌<◌, ◌≤◌, ◌+◌, ℕ, List, [], ◌∷◌, ◌++◌, map, refl, sym, ap, subst, arith, map-append, All-cons, All-nil, All-weaker, All, keys_of, Who, Node, Sequence, AreRisingWithin, IsWithout}
 
 -- a sequence with a number over the one and no greater than the other
 pub record IsBetween (low high : ℕ) (who : Who) : Type 0 where

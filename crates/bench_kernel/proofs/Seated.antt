@@ -1,32 +1,6 @@
 -- Where those sit who are held, after each change.
-use Rattle.std.proofs.Common.{◌≡◌, ◌≢◌, ◌∙◌, ◌<◌, ◌+◌, ℕ, suc, List, [], ◌∷◌, ◌++◌, length, Some, sym, ap, subst, arith}
-use Rattle.std.proofs.lemmas.List.{map-append}
-use Rattle.std.proofs.lemmas.List.Elements.{All-cons, All-map, All-tail, All-weaker}
-use Rattle.std.proofs.lemmas.List.Sorted.{All-permutation, IsPermutation-map, IsPermutation-sym}
-use Rattle.std.proofs.lemmas.Option.{same_Some}
-use Rattle.std.specs.Prelude.{All}
-use Rattle.std.specs.List.Sorted.{IsPermutation}
-use Rattle.std.specs.Map.{keys_of}
-use Rattle.uvm_acts.specs.declared.acts.Who.{Who}
-use Rattle.uvm_acts.specs.declared.acts.Who.TheVariants.{Node, Sequence}
-use Rattle.uvm_acts.specs.declared.acts.Act.{Act}
-use Rattle.uvm_object.specs.declared.entries.Outcome.{Outcome}
-use Rattle.uvm_object.specs.declared.entries.Outcome.TheVariants.{Made, Started}
-use Rattle.uvm_object.specs.declared.entries.Entry.{Entry}
-use Rattle.uvm_object.specs.declared.entries.Entry.TheVariants.{Did}
-use Rattle.bench_script.specs.Scripts.{ScriptValue}
-use Rattle.bench_history.specs.History.{nodes_of}
-use Rattle.bench_history.specs.Sequences.{Beginning, begun_of, sequences_of, start_by}
-use Rattle.bench_history.specs.declared.needs.Need.{Need}
+use Rattle.bench_kernel.proofs.Common.{◌≡◌, ◌≢◌, ◌∙◌, ◌<◌, ◌+◌, ℕ, suc, List, [], ◌∷◌, ◌++◌, length, Some, sym, ap, subst, arith, map-append, All-cons, All-map, All-tail, All-weaker, All-permutation, IsPermutation-map, IsPermutation-sym, same_Some, All, IsPermutation, keys_of, Who, Node, Sequence, Act, Outcome, Made, Started, Entry, Did, ScriptValue, nodes_of, StartRecord, starts_of, sequences_of, start_by, next_of, HasGrown, made_who, LogLaws, AreSeated, IsFree, IsSeated, IsTakenOut, Taken, held_in, paths_in, AreRisingWithin, IsWithout, SequenceSeatsValue, Need}
 use Rattle.bench_history.specs.Cases as next
-use Rattle.bench_history.specs.Next.{next_of}
-use Rattle.bench_history.specs.Laws.{HasGrown}
-use Rattle.bench_core.specs.Worlds.{made_who}
-use Rattle.bench_kernel.specs.Laws.{LogLaws}
-use Rattle.bench_kernel.specs.Kernels.{AreSeated}
-use Rattle.bench_kernel.specs.Seating.{IsFree, IsSeated}
-use Rattle.object_seats.specs.Seats.{IsTakenOut, Taken, held_in, paths_in}
-use Rattle.object_seats.specs.SequenceSeats.{AreRisingWithin, IsWithout, SequenceSeatsValue}
 use Rattle.bench_kernel.proofs.Held.{Sits, placed-later}
 use Rattle.bench_kernel.proofs.Lists.{All-unmap}
 use Rattle.bench_kernel.proofs.Rising.{rising-push, rising-rest, rising-without}
@@ -37,7 +11,7 @@ pub nodes-asked : (history : List Entry) (paths others : List (List (List ℕ) �
 nodes-asked history paths others same under = All-permutation (λ (place : List (List ℕ) × ℕ). place.1 < length (nodes_of history)) paths others same under
 
 module _ {O : Type 0} where
-  -- somebody was asked
+  -- a component or sequence was asked
   pub seated-asked : (history : List Entry) (paths others : List (List (List ℕ) × ℕ)) (count more : ℕ) (sequences asked : List (Who × O)) → IsPermutation paths others → more ≡ count → keys_of asked ≡ keys_of sequences → AreSeated history paths count sequences
       → AreSeated history others more asked
   seated-asked history paths others count more sequences asked same count_is keys seated = record {
@@ -79,15 +53,15 @@ module _ {O : Type 0} where
 
 module _ (laws : LogLaws) {O : Type 0} where
   -- an entry that starts no sequence
-  pub seated-later : (history : List Entry) (entry : Entry) (paths : List (List (List ℕ) × ℕ)) (count : ℕ) (sequences : List (Who × O)) → begun_of (entry ∷ history) ≡ begun_of history → All (λ (place : List (List ℕ) × ℕ). place.1 < length (nodes_of history)) paths
+  pub seated-later : (history : List Entry) (entry : Entry) (paths : List (List (List ℕ) × ℕ)) (count : ℕ) (sequences : List (Who × O)) → starts_of (entry ∷ history) ≡ starts_of history → All (λ (place : List (List ℕ) × ℕ). place.1 < length (nodes_of history)) paths
       → AreSeated history paths count sequences → AreSeated (entry ∷ history) paths count sequences
   seated-later history entry paths count sequences begun under seated = record {
     placed = placed-later laws.nodes entry history paths under seated.placed;
     rising = seated.rising;
-    started = seated.started ∙ ap (λ (b : List Beginning). length b) (sym begun);
+    started = seated.started ∙ ap (λ (b : List StartRecord). length b) (sym begun);
   }
 
-  -- somebody was seated who was made
+  -- a component or sequence was seated who was made
   component-seated : (history : List Entry) (entry : Entry) (path : List (List ℕ)) (object : O) (old new : List (Taken O)) (were are : SequenceSeatsValue O) → HasGrown history path entry
       → IsSeated (Node (length (nodes_of history))) path object old new were are → All (λ (place : List (List ℕ) × ℕ). place.1 < length (nodes_of history)) (paths_in old)
       → AreSeated history (paths_in old) were.count were.held → AreSeated (entry ∷ history) (paths_in new) are.count are.held
@@ -99,10 +73,10 @@ module _ (laws : LogLaws) {O : Type 0} where
             (IsPermutation-map (λ (seat : Taken O). (seat.path, seat.node)) (record { path = path; node = node; object = object } ∷ old) new seats.0)
             (All-cons (Sits (entry ∷ history)) (path, node) (paths_in old) grown.path_is (placed-later laws.nodes entry history (paths_in old) under seated.placed));
         rising = seated.rising;
-        started = seated.started ∙ ap (λ (b : List Beginning). length b) (sym grown.starts_none);
+        started = seated.started ∙ ap (λ (b : List StartRecord). length b) (sym grown.starts_none);
       })
 
-  sequence-seated : (history : List Entry) (performer : Who) (act : Act) (id home : ℕ) (path : List (List ℕ)) (object : O) (old new : List (Taken O)) (were are : SequenceSeatsValue O) → id ≡ suc (length (begun_of history))
+  sequence-seated : (history : List Entry) (performer : Who) (act : Act) (id home : ℕ) (path : List (List ℕ)) (object : O) (old new : List (Taken O)) (were are : SequenceSeatsValue O) → id ≡ suc (length (starts_of history))
       → IsSeated (Sequence home id) path object old new were are → All (λ (place : List (List ℕ) × ℕ). place.1 < length (nodes_of history)) (paths_in old)
       → AreSeated history (paths_in old) were.count were.held → AreSeated (Did performer (Started id) act ∷ history) (paths_in new) are.count are.held
   sequence-seated history performer act id home path object old new were are number seats under seated =
@@ -131,7 +105,7 @@ module _ (laws : LogLaws) {O : Type 0} where
 
   -- there is a seat for who was made
   pub free-for : (history : List Entry) (need : Need) (made : Outcome) (performer : Who) (act : Act) (who : Who) (taken : List (Taken O)) (sequences : SequenceSeatsValue O) (script : ScriptValue)
-      → next_of script history ≡ next.Need need made performer act → made_who history (next.Need need made performer act) ≡ Some who → sequences.count ≡ length (begun_of history)
+      → next_of script history ≡ next.Need need made performer act → made_who history (next.Need need made performer act) ≡ Some who → sequences.count ≡ length (starts_of history)
       → All (λ (place : List (List ℕ) × ℕ). place.1 < length (nodes_of history)) (paths_in taken) → IsFree who taken sequences
   free-for history need (Made type_name) performer act who taken sequences script needs is started under =
       subst (λ w. IsFree w taken sequences) (same_Some (Node (length (nodes_of history))) who is) (free-node (length (nodes_of history)) taken under)

@@ -1,26 +1,6 @@
 -- Who is held: the components that sit, and the sequences that do.
-use Rattle.std.proofs.Common.{◌≡◌, ◌∙◌, ℕ, List, [], ◌∷◌, ◌++◌, Result, inl, inr, sym, ap, subst}
-use Rattle.std.proofs.lemmas.List.{map-append}
-use Rattle.std.proofs.lemmas.List.Elements.{All-append, All-cons, All-contains, All-head, All-map, All-nil, All-tail, All-weaker, Contains-append_cases}
-use Rattle.std.proofs.lemmas.List.Sorted.{All-permutation, IsPermutation-append_comm, IsPermutation-append_left, IsPermutation-append_right, IsPermutation-map, IsPermutation-middle, IsPermutation-sym, IsPermutation-trans}
-use Rattle.std.specs.Prelude.{◌⊎◌, All, Contains}
-use Rattle.std.specs.List.Sorted.{IsPermutation}
-use Rattle.std.specs.Map.{keys_of}
-use Rattle.std.specs.declared.alloc.AllocError.{AllocError}
+use Rattle.bench_kernel.proofs.Common.{◌≡◌, ◌∙◌, ℕ, List, [], ◌∷◌, ◌++◌, Result, inl, inr, sym, ap, subst, map-append, All-append, All-cons, All-contains, All-head, All-map, All-nil, All-tail, All-weaker, Contains-append_cases, All-permutation, IsPermutation-append_comm, IsPermutation-append_left, IsPermutation-append_right, IsPermutation-map, IsPermutation-middle, IsPermutation-sym, IsPermutation-trans, All, Contains, IsPermutation, keys_of, AllocError, path_at, View, Says, Who, Node, Sequence, Call, Act, Entry, IsAsked, HasEnded, GoesBefore, IsFirstBack, IsSeated, all_held, IsTakenOut, Taken, held_in, paths_in, AreRisingWithin, SequenceSeatsValue, ◌⊎◌}
 use Rattle.uvm_tree.specs.Nodes as declared
-use Rattle.uvm_tree.specs.Nodes.{path_at}
-use Rattle.uvm_object.specs.Objects.{View, Says}
-use Rattle.uvm_acts.specs.declared.acts.Who.{Who}
-use Rattle.uvm_acts.specs.declared.acts.Who.TheVariants.{Node, Sequence}
-use Rattle.uvm_acts.specs.declared.acts.Call.{Call}
-use Rattle.uvm_acts.specs.declared.acts.Act.{Act}
-use Rattle.uvm_object.specs.declared.entries.Entry.{Entry}
-use Rattle.object_seats.specs.Asked.{IsAsked}
-use Rattle.bench_kernel.specs.Kernels.{HasEnded}
-use Rattle.bench_kernel.specs.Orders.{GoesBefore, IsFirstBack}
-use Rattle.bench_kernel.specs.Seating.{IsSeated, all_held}
-use Rattle.object_seats.specs.Seats.{IsTakenOut, Taken, held_in, paths_in}
-use Rattle.object_seats.specs.SequenceSeats.{AreRisingWithin, SequenceSeatsValue}
 use Rattle.bench_kernel.proofs.Lists.{All-unmap, Contains-map}
 use Rattle.bench_kernel.proofs.Rising.{IsBetween, all-between}
 
@@ -101,7 +81,7 @@ module _ {O : Type 0} where
       said = asked.said;
     }
 
-  -- somebody was seated
+  -- a component or sequence was seated
   pub seated-held : (who : Who) (path : List (List ℕ)) (object : O) (old new : List (Taken O)) (were are : SequenceSeatsValue O) → IsSeated who path object old new were are
       → IsPermutation ((who, object) ∷ all_held old were.held) (all_held new are.held)
   seated-held (Node node) path object old new were are seated =

@@ -1,34 +1,12 @@
 -- What a turn of the machine makes of a step.
-use Rattle.std.proofs.Common.{◌≡◌, ◌∙◌, ℕ, true, false, List, [], ◌∷◌, ◌<◌, length, Option, Some, None, IfSome, Result, Ok, Err, inl, inr, refl, sym, ap, subst}
-use Rattle.std.specs.List.Sorted.{IsPermutation}
-use Rattle.std.specs.declared.alloc.AllocError.{AllocError}
-use Rattle.uvm_object.specs.declared.entries.Origin.{Origin}
-use Rattle.uvm_object.specs.Objects.{View, Says}
-use Rattle.uvm_acts.specs.declared.acts.Who.{Who}
-use Rattle.uvm_acts.specs.declared.acts.Call.{Call}
-use Rattle.uvm_acts.specs.declared.acts.Act.{Act}
+use Rattle.bench_kernel.proofs.Common.{◌≡◌, ◌∙◌, ℕ, true, false, List, [], ◌∷◌, ◌<◌, length, Option, Some, None, Result, Ok, Err, inl, inr, refl, sym, ap, subst, IsPermutation, AllocError, Origin, View, Says, Who, Call, Act, Entry, Granted, Heard, log_limit, IsNext, next_of, IsMachines, IsSomething, MachineEntriesAreSilent, Standing, Needed, Asked, Health, Good, CoreFault, Memory, LogFull, Failed, NoTest, CoreValue, IsTurn, IsNextTurn, IsRefusedTurn, IsToldTurn, IsAskedNext, call_of, core_after, answer_in, failed_from, need_of, KernelValue, IsAsked, IsBack, IsReady, IsWaiting, IsMoved, IsRefusedStep, IsSameLog, WasGiven, unanswered_from, IfSome, Need, Nothing}
 use Rattle.uvm_object.specs.declared.entries.Grant.{Grant}
-use Rattle.uvm_object.specs.declared.entries.Entry.{Entry}
-use Rattle.uvm_object.specs.declared.entries.Entry.TheVariants.{Granted, Heard}
-use Rattle.bench_history.specs.Limits.{log_limit}
 use Rattle.bench_history.specs.Cases as next
 use Rattle.bench_history.specs.Next as coming
-use Rattle.bench_history.specs.Next.{IsNext, next_of}
-use Rattle.bench_history.specs.declared.needs.Need.{Need}
-use Rattle.bench_history.specs.Laws.{IsMachines, IsSomething, MachineEntriesAreSilent}
-use Rattle.bench_core.specs.Cores.{Standing, Nothing, Needed, Asked}
 use Rattle.bench_core.specs.declared.cores.Turn as turn
-use Rattle.bench_core.specs.declared.cores.Health.{Health}
-use Rattle.bench_core.specs.declared.cores.Health.TheVariants.{Good}
-use Rattle.bench_core.specs.declared.faults.CoreFault.{CoreFault}
-use Rattle.bench_core.specs.declared.faults.CoreFault.TheVariants.{Memory, LogFull, Failed, NoTest}
-use Rattle.bench_core.specs.Cores.{CoreValue, IsTurn, IsNextTurn, IsRefusedTurn, IsToldTurn, IsAskedNext, call_of, core_after, answer_in, failed_from, need_of}
-use Rattle.bench_kernel.specs.Kernels.{KernelValue}
-use Rattle.object_seats.specs.Asked.{IsAsked}
-use Rattle.bench_kernel.specs.Steps.{IsBack, IsReady, IsWaiting, IsMoved, IsRefusedStep, IsSameLog, WasGiven, unanswered_from}
 use Rattle.bench_kernel.proofs.Lives.{same_who-self}
 
--- the machine tells nobody that has ended
+-- the machine tells no component or sequence that has ended
 abbrev pub TellsNone : turn.Turn → Type 0
 TellsNone (turn.TheVariants.Leave who) = ⊥
 TellsNone turn = Unit {0}
@@ -52,7 +30,7 @@ refused-told-by (who ∷ others) fault old new is t = absurd (let e = t.0 in cc)
 pub refused-told : (fault : CoreFault) (old new : CoreValue) → IsToldTurn old.leaving (Err fault) old new → IsTold (Err fault) old new
 refused-told fault old new t = refused-told-by old.leaving fault old new refl t
 
--- or somebody is told, and nothing else changes
+-- or a component or sequence is told, and nothing else changes
 pub record HasTold (who : Who) (old new : CoreValue) : Type 0 where
   pub others : List Who
   pub told : old.leaving ≡ who ∷ others
@@ -148,7 +126,7 @@ over-at (Asked performer call origin) old new t = absurd (let e = t.0 in cc)
 pub over-turn : (old new : CoreValue) → IsNextTurn old.standing (Ok turn.TheVariants.Over) old new → new ≡ old
 over-turn old new t = over-at old.standing old new t
 
--- somebody is asked, whose answer comes next, and no object was needed
+-- a component or sequence is asked, whose answer comes next, and no object was needed
 pub record HasAsked (performer : Who) (call : Call) (old new : CoreValue) : Type 0 where
   pub origin : Option Origin
   pub is : new ≡ record old { standing = Asked performer call origin }
@@ -210,7 +188,7 @@ unheard-log performer call old asking new health asks failed =
     rw (failed, asks.is) (record { script = refl; history = refl })
 
 module _ {O : Type 0} (view : O → View) (name : O → List ℕ) (says : O → Says) where
-  -- an entry of the machine is nobody's answer
+  -- an entry of the machine is not an answer
   given-machines : (history : List Entry) (entry : Entry) (held : List (Who × O)) → IsMachines history entry → WasGiven view name says entry held held
   given-machines history (Heard performer origin call acts) held machines =
       absurd (let nothing = machines.silent performer in

@@ -1,32 +1,8 @@
 -- What becomes of an object that is needed.
-use Rattle.std.proofs.Common.{◌≡◌, ◌∙◌, ◌<◌, ℕ, Bool, true, false, List, ◌∷◌, length, Option, Some, None, IsSome, IfSome, refl, ap, if◌then◌else◌}
-use Rattle.std.proofs.lemmas.Option.{same_Some}
-use Rattle.std.specs.Prelude.{All}
-use Rattle.std.specs.List.Sorted.{IsPermutation}
-use Rattle.uvm_object.specs.Objects.{View, Says}
-use Rattle.uvm_acts.specs.declared.acts.Who.{Who}
-use Rattle.uvm_acts.specs.declared.acts.Act.{Act}
-use Rattle.uvm_object.specs.declared.entries.Outcome.{Outcome}
-use Rattle.uvm_object.specs.declared.entries.Outcome.TheVariants.{Refused}
-use Rattle.uvm_object.specs.declared.entries.Entry.{Entry}
-use Rattle.uvm_object.specs.declared.entries.Entry.TheVariants.{Did}
-use Rattle.uvm_object.specs.declared.fatals.Fatal.TheVariants.{NoObject}
-use Rattle.bench_script.specs.Scripts.{ScriptValue}
+use Rattle.bench_kernel.proofs.Common.{◌≡◌, ◌∙◌, ◌<◌, ℕ, Bool, true, false, List, ◌∷◌, length, Option, Some, None, refl, ap, if◌then◌else◌, same_Some, All, IsPermutation, View, Says, Who, Act, Outcome, Refused, Entry, Did, NoObject, ScriptValue, next_of, declined_in, made_in, nodes_of, starts_of, made_who, IsAskedNext, CoreValue, Standing, Needed, Asked, core_after, need_of, AreSeated, KernelValue, IsKernel, open_need, wanted_in, LogLaws, IsFree, IsSeated, Taken, paths_in, SequenceSeatsValue, IsSupplied, IsSome, IfSome, Need, Nothing}
 use Rattle.bench_history.specs.Cases as next
 use Rattle.bench_history.specs.Next as coming
-use Rattle.bench_history.specs.Next.{next_of, declined_in, made_in}
-use Rattle.bench_history.specs.History.{nodes_of}
-use Rattle.bench_history.specs.Sequences.{begun_of}
-use Rattle.bench_history.specs.declared.needs.Need.{Need}
-use Rattle.bench_core.specs.Worlds.{made_who}
-use Rattle.bench_core.specs.Cores.{IsAskedNext, CoreValue, Standing, Nothing, Needed, Asked, core_after, need_of}
-use Rattle.bench_kernel.specs.Kernels.{AreSeated, KernelValue, IsKernel, open_need, wanted_in}
-use Rattle.bench_kernel.specs.Laws.{LogLaws}
-use Rattle.bench_kernel.specs.Seating.{IsFree, IsSeated}
-use Rattle.object_seats.specs.Seats.{Taken, paths_in}
-use Rattle.object_seats.specs.SequenceSeats.{SequenceSeatsValue}
-use Rattle.bench_kernel.specs.Steps.{IsSupplied}
-use Rattle.bench_kernel.proofs.Kept.{kept-declined, kept-supplied}
+use Rattle.bench_kernel.proofs.Preserved.{kept-declined, kept-supplied}
 use Rattle.bench_kernel.proofs.Seated.{free-for, seated-come, seated-later}
 
 -- a kernel that needs an object has not failed
@@ -122,7 +98,7 @@ module _ (laws : LogLaws) {O : Type 0} (view : O → View) (name : O → List �
 
   -- there is a seat for it
   pub free-now : (kernel : KernelValue O) (need : Need) (who : Who) (taken : List (Taken O)) (sequences : SequenceSeatsValue O) → need_of kernel.core.standing ≡ Some need → made_who kernel.core.history (next_of kernel.core.script kernel.core.history) ≡ Some who
-      → kernel.failed ≡ false → sequences.count ≡ length (begun_of kernel.core.history) → All (λ (place : List (List ℕ) × ℕ). place.1 < length (nodes_of kernel.core.history)) (paths_in taken) → IsKernel view name says kernel → IsFree who taken sequences
+      → kernel.failed ≡ false → sequences.count ≡ length (starts_of kernel.core.history) → All (λ (place : List (List ℕ) × ℕ). place.1 < length (nodes_of kernel.core.history)) (paths_in taken) → IsKernel view name says kernel → IsFree who taken sequences
   free-now kernel need who taken sequences standing who_is going started under kept =
       let needed = needed-now kernel need standing (kept.comes going) in
       free-for laws kernel.core.history need needed.made needed.performer needed.act who taken sequences kernel.core.script needed.next_is (rw needed.next_is at who_is) started under

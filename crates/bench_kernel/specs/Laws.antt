@@ -1,4 +1,4 @@
--- The laws of legal logs that custody rests on, and what they say of who was made.
+-- Laws of legal logs on which the holding of objects rests, and what they state of the components and sequences that are made.
 use Rattle.std.specs.Prelude.{◌≡◌, ℕ, List, [], ◌∷◌, Some, None, Contains}
 use Rattle.uvm_acts.specs.declared.acts.Who.{Who}
 use Rattle.uvm_acts.specs.declared.acts.Who.TheVariants.{Sequence}
@@ -12,7 +12,7 @@ use Rattle.bench_core.specs.Worlds.{made_who}
 use Rattle.bench_kernel.specs.Kernels.{needed_type, types_made}
 use Rattle.bench_history.specs.Laws.{NothingAfterOver, MachineEntriesAreSilent, NodesStay, NeedsAreWanted, MadeObjectsAreNew, NewNodesAreUnasked, NewSequencesAreUnasked, ComponentsAreNodes, LivingLived, LeaversLived}
 
--- the laws of legal logs on which the custody of objects rests
+-- the laws of legal logs on which the holding of objects rests
 pub record LogLaws : Type 0 where
   pub over : NothingAfterOver
   pub silent : MachineEntriesAreSilent
@@ -25,7 +25,7 @@ pub record LogLaws : Type 0 where
   pub lived : LivingLived
   pub leavers : LeaversLived
 
--- whoever is made is one more than were made before, with the name of the type that was needed, and was asked nothing yet
+-- a component or sequence is made, one more than before, with the name of the type that was needed; it was not called yet
 pub record IsMadeNew (script : ScriptValue) (history : List Entry) (entry : Entry) (who : Who) : Type 0 where
   pub types : types_made script (entry ∷ history) ≡ (who, needed_type script history) ∷ types_made script history
   pub unasked : life_of who history ≡ []
@@ -36,17 +36,17 @@ MadeAreNew =
     (script : ScriptValue) (history : List Entry) (entry : Entry) (who : Who) → EachIsNext script history → made_in (next_of script history) ≡ Some entry
     → made_who history (next_of script history) ≡ Some who → IsMadeNew script history entry who
 
--- where no object is needed nobody is made
+-- law: an entry for which no object was needed makes no component and starts no sequence
 abbrev pub OthersMakeNobody : Type 0
 OthersMakeNobody =
     (script : ScriptValue) (history : List Entry) (entry : Entry) → need_in (next_of script history) ≡ None → IsNext script history entry
     → types_made script (entry ∷ history) ≡ types_made script history
 
--- each that was made was made once, and of two sequences none has the number of the other, on whichever sequencers they were started
+-- no component or sequence is in the list twice, and no two sequences have the same number, on any sequencers
 pub record AreMadeOnce (made : List Who) : Type 0 where
   pub distinct : IsDistinct same_who made
   pub numbers : (id home other : ℕ) → Contains made (Sequence home id) → Contains made (Sequence other id) → home ≡ other
 
--- nobody is made twice: no number of a node or of a sequence is used again
+-- law: no component or sequence is made twice, so no number of a node or of a sequence is used again (`AreMadeOnce`)
 abbrev pub NobodyIsMadeTwice : Type 0
 NobodyIsMadeTwice = (script : ScriptValue) (history : List Entry) → EachIsNext script history → AreMadeOnce (keys_of (types_made script history))

@@ -5,3 +5,8 @@ pub mod Orders
 pub mod Steps
 pub use Rattle.bench_core.specs.Cores
 pub use Rattle.bench_core.specs.declared.cores.Health
+pub mod Seats
+pub mod Places
+pub mod SequenceSeats
+pub mod Numbered
+pub mod Asked

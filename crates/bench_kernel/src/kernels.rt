@@ -1,4 +1,4 @@
-//! The kernel.
+//! The kernel of a testbench.
 
 ghost use Rattle.std.specs.Prelude.{◌≡◌, ◌∷◌, [], true, false, All, Contains, OnOk, OnErr, IfOk, IfErr, IfSome, IfNone, IsSome, None, is_some, length, option_copied};
 ghost use Rattle.std.specs.List.{IsDistinct};
@@ -7,7 +7,7 @@ ghost use Rattle.bench_history.specs.History.{nodes_of};
 ghost use Rattle.bench_history.specs.Limits.{log_limit};
 ghost use Rattle.bench_history.specs.Next.{next_of, declined_in, IsLegal};
 ghost use Rattle.bench_history.specs.Reports.{report_commands};
-ghost use Rattle.uvm_report.specs.Changes.{Gives};
+ghost use Rattle.uvm_report.specs.Changes.{ReportsAgree};
 ghost use Rattle.bench_core.specs.Cores.{IsDrawing, IsUnmade, core_after, is_sound};
 ghost use Rattle.bench_core.specs.Cores.{Nothing};
 ghost use Rattle.bench_core.specs.declared.cores.Health.TheVariants.{Good};
@@ -16,56 +16,55 @@ ghost use Rattle.bench_kernel.specs.Kernels.{AreAllHeld, AreHonest, AreToldNext,
 ghost use Rattle.uvm_object.specs.Objects.{same_who};
 ghost use Rattle.bench_kernel.specs.Steps.{IsMisfit, IsStep, IsSupplied, drawn_in};
 
-use crate::laws;
 use crate::seating::{hear, reserve, seat};
+use crate::{Seats, SequenceSeats, laws};
 use bench_core::{Core, CoreFault, Need, Turn};
 use bench_script::Script;
-use object_seats::{Seats, SequenceSeats};
 use rand_core::Rng;
 use std::alloc::Global;
 use std::marker::Model;
 use uvm_object::{Log, UvmObject, Who};
 use uvm_report::Reports;
 
-/// What a step came to.
+/// The result of `Kernel::step`.
 #[derive(Drop)]
 pub enum Step<O> {
-    /// An object is needed; `need` says which.
+    /// A request for an object, which `need` returns.
     Need,
-    /// An entry was made.
+    /// A new log entry.
     Moved,
-    /// A sequence has ended (IEEE 1800.2-2020, Clause 14), and its object is given back.
+    /// The end of a sequence (IEEE 1800.2-2020, Clause 14), whose object is returned.
     Back {
         /// The sequence, with its number and its home.
         who: Who,
-        /// Its object.
+        /// The object of the sequence.
         object: O,
     },
-    /// The run is over.
+    /// The end of the run.
     Over,
 }
 
-/// Why an object is not taken.
+/// The reason why an object is not accepted.
 #[derive(Clone, Copy, PartialEq, Eq)]
 pub enum Misfit {
-    /// It is of another type than the one that is needed.
+    /// A type other than the needed one.
     WrongType,
-    /// Memory was refused.
+    /// Out of memory.
     Memory,
 }
 
-/// An object that was not taken, as it came.
+/// A supplied object that is not accepted, unchanged.
 #[derive(Drop)]
 pub struct Unfit<O> {
     /// The object that was supplied.
     pub object: O,
-    /// Why it is not taken.
+    /// The reason why it is not accepted.
     pub why: Misfit,
 }
 
-/// A testbench that runs: the machine, and the objects that it asks. Contracts see the machine, who is held with which object,
-/// in no order, whether the kernel has failed, and whose object gave no answer, if one did not. A kernel cannot be let go: `finish` ends one,
-/// once each object was given back.
+/// A testbench that runs: the core, and the objects that it calls. Contracts see the core, and the held objects in no order, each with its
+/// component or sequence. They also see whether the kernel has failed, and for which component or sequence a call has no entry in the log,
+/// if for any. A kernel cannot be dropped: `finish` ends it once each object was returned.
 pub struct Kernel<O: UvmObject> {
     alloc: Global,
     core: Core,
@@ -76,7 +75,7 @@ pub struct Kernel<O: UvmObject> {
 }
 
 impl<O: UvmObject> Model for Kernel<O> {
-    ghost use Rattle.object_seats.specs.Seats.{paths_in};
+    ghost use Rattle.bench_kernel.specs.Seats.{paths_in};
     ghost use Rattle.bench_kernel.specs.Seating.{all_held};
     ghost use Rattle.bench_kernel.specs.Kernels.{KernelValue, IsKernel, AreSeated};
 
@@ -89,8 +88,8 @@ impl<O: UvmObject> Model for Kernel<O> {
 }
 
 impl<O: UvmObject> Kernel<O> {
-    /// The kernel of a script, before the first step. `NoTest` where the script has no test, else `Memory` where memory is
-    /// refused.
+    /// Creates the kernel of a script, with an empty log and no object. Errors: `NoTest` if the script has no test; `Memory` (out of
+    /// memory).
     pub fn new(alloc: Global, script: Script) -> Result<Kernel<O>, CoreFault>
         ensures ok { IfOk result (λ kernel. IsSome script.test × (kernel ≡ record {
           core = record { script = script; history = []; standing = Nothing; health = Good; leaving = [] };
@@ -110,11 +109,12 @@ impl<O: UvmObject> Kernel<O> {
         })
     }
 
-    /// Gives back the object of a sequence that has ended, once each, in rising number and before any further entry; else makes one
-    /// entry, for which it asks one object at most, or says that an object is needed (again and again until it is supplied or
-    /// declined), or that the run is over. `LogFull` where an entry would be next and the log is full, `Memory`
-    /// where memory is refused, also to the object that is asked, and `Failed` from then on. A word is drawn where one decides whom the
-    /// next item is granted (Clause 15), and for nothing else; where memory is refused then, it may be lost.
+    /// Performs one step. Returns the object of each ended sequence once, in ascending order of number and before any further entry
+    /// (`Back`). Otherwise appends one entry, for which it calls at most one object (`Moved`). If an object is needed, requests it until it
+    /// is supplied or declined (`Need`). Returns `Over` when the run has ended. One random number is consumed if it decides which sequence
+    /// is granted the next item (Clause 15), otherwise none. Errors: `Failed` if the kernel has failed; `LogFull` if an entry would come
+    /// next and the log is full; `Memory` (out of memory, also in the object that is called). After an error the kernel has failed.
+    /// `Memory` may also lose a random number.
     pub fn step<R: Rng>(&mut self, words: &mut R) -> Result<Step<O>, CoreFault>
         ensures step { IsStep O.view O.name O.says result self.old self.new }
         ensures needed { IfOk result (λ step. step ≡ Step.Need → IsSome (open_need self.new)) }
@@ -154,7 +154,7 @@ impl<O: UvmObject> Kernel<O> {
         }
     }
 
-    /// The object that is needed, if one is. None once the kernel has failed.
+    /// Returns the object that is needed, or `None` if none is needed or the kernel has failed.
     pub fn need(&self) -> Option<&Need>
         ensures { option_copied result ≡ open_need self.now }
     {
@@ -164,9 +164,9 @@ impl<O: UvmObject> Kernel<O> {
         self.core.need()
     }
 
-    /// Takes the object that is needed, which is then that of the new component or sequence. An object that is not taken comes back as it
-    /// came, and is still needed: `WrongType` where its type is another than the one that is needed, else `Memory` where
-    /// memory is refused.
+    /// Supplies the needed object, which then is that of the new component or sequence. Requires that an object is needed. Errors:
+    /// `WrongType` if its type is not the needed one; `Memory` (out of memory). On an error the object is returned unchanged and is still
+    /// needed.
     pub fn supply(&mut self, object: O) -> Result<(), Unfit<O>>
         requires { IsSome (open_need self.old) }
         ensures ok { OnOk result (IsSupplied O.view O.name O.says object self.old self.new) }
@@ -196,7 +196,7 @@ impl<O: UvmObject> Kernel<O> {
         Ok(())
     }
 
-    /// Declines to supply the object that is needed: its creation or start is refused. Takes no memory.
+    /// Declines to supply the needed object: its creation or start is rejected. Requires that an object is needed. Allocates no memory.
     pub fn decline(&mut self)
         requires { IsSome (open_need self.old) }
         ensures entry { IfSome (declined_in (next_of self.old.core.script self.old.core.history)) (λ entry. self.new ≡ record self.old { core = core_after entry self.old.core }) }
@@ -206,8 +206,9 @@ impl<O: UvmObject> Kernel<O> {
         self.core.declined();
     }
 
-    /// Gives back one of the objects that are held, with whose it was: of the sequences the one of the least number, and once none
-    /// is held of the components the first Down. None where none is held. For a run that is over, or a kernel that has failed. Takes no memory.
+    /// Removes a held object and returns it with its component or sequence, or returns `None` if no object is held. Sequences come first,
+    /// in ascending order of number; then components in pre-order. Requires that the run has ended or the kernel has failed. Allocates no
+    /// memory.
     pub fn give_back(&mut self) -> Option<(Who, O)>
         requires { is_done self.old ≡ true }
         ensures some { IfSome result (λ back. IsPermutation (back ∷ self.new.held) self.old.held) }
@@ -222,7 +223,7 @@ impl<O: UvmObject> Kernel<O> {
         self.seats.pop_first()
     }
 
-    /// Ends a kernel that holds no object any more. Takes no memory.
+    /// Ends a kernel that holds no object. Allocates no memory.
     pub fn finish(self)
         requires { self.held ≡ [] }
     {
@@ -236,8 +237,8 @@ impl<O: UvmObject> Kernel<O> {
         } = self;
     }
 
-    /// Gives up: from now on the kernel has failed, and only gives back. Nothing changes where the run is over, or the
-    /// kernel has failed already. Takes no memory.
+    /// Aborts the run: the kernel has failed from now on, and only returns its objects. Changes nothing if the run has ended, or the kernel
+    /// has failed already. Allocates no memory.
     pub fn abandon(&mut self)
         ensures { self.new ≡ abandoned self.old }
     {
@@ -246,8 +247,8 @@ impl<O: UvmObject> Kernel<O> {
         }
     }
 
-    /// Returns a reference to the log, which is legal at every moment. Each answer in it of an object that is held is one that the object may
-    /// give. Its limit is that of the script's version.
+    /// Returns a reference to the log, which is always legal. The answers in it conform to the relations of the held objects (`AreHonest`).
+    /// Its limit in entries is that of the script's version.
     pub fn log(&self) -> &Log
         ensures entries { result.now.entries ≡ self.now.core.history }
         ensures legal { IsLegal self.now.core.script self.now.core.history }
@@ -257,26 +258,26 @@ impl<O: UvmObject> Kernel<O> {
         self.core.log()
     }
 
-    /// The report server (IEEE 1800.2-2020, Clause 6): what its calls give is what the log comes to. None once memory was refused
-    /// to the machine.
+    /// Returns the report server (IEEE 1800.2-2020, Clause 6), whose results follow from the log. Returns `None` after an out-of-memory
+    /// error of the core.
     pub fn reports(&self) -> Option<&Reports>
-        ensures given { IfSome result (λ reports. Gives reports.now (report_commands self.now.core.script self.now.core.history)) }
+        ensures given { IfSome result (λ reports. ReportsAgree reports.now (report_commands self.now.core.script self.now.core.history)) }
         ensures variant { is_some result ≡ is_sound self.now.core.health }
     {
         self.core.reports()
     }
 
-    /// The machine.
+    /// Returns the core.
     pub fn core(&self) -> &Core
         ensures { result.now ≡ self.now.core }
     {
         &self.core
     }
 
-    /// How many objects are held. Nobody is held twice. Who is held is a component or a sequence that was made, and the object is of
-    /// the type that was made; while the run goes on each component is held, each sequence that lives, and each that has ended and
-    /// was not given back yet. Until the kernel has failed those that are still to be given back at once have ended, and go in rising
-    /// number.
+    /// Returns the number of held objects. They are of distinct components and sequences that were made, and each has the type that was
+    /// made. Until the run has ended or the kernel has failed, the object of each component and of each active sequence is held. So is that
+    /// of each ended sequence that was not returned yet. Until the kernel has failed, the sequences whose objects `step` returns next have
+    /// ended, and are in ascending order of number.
     pub fn live(&self) -> usize
         ensures count { result ≡ length self.now.held }
         ensures distinct { IsDistinct same_who (who_held self.now) }

@@ -1,11 +1,11 @@
-//! The laws of legal logs that custody rests on, and what they say of who was made. The functions do nothing that shows; their
-//! contracts are the laws (`specs/Laws.antt`).
+//! Laws of legal logs on which the holding of objects rests, and what they state of the components and sequences that are made. These
+//! functions have no run-time effect: their contracts are the laws (`specs/Laws.antt`).
 
 ghost use Rattle.bench_kernel.specs.Laws.{LogLaws, MadeAreNew, NobodyIsMadeTwice, OthersMakeNobody};
 
 use bench_history::laws;
 
-// All of them hold.
+// Law: all laws of `LogLaws` hold.
 pub(crate) fn hold()
     ensures { LogLaws }
 {
@@ -21,7 +21,7 @@ pub(crate) fn hold()
     laws::leavers_lived();
 }
 
-/// Whoever is made is new: the log names one more that was made, with the name of the type that was needed, and nothing was asked of it
+/// Law: a component or sequence that is made is new. The log adds it with the name of the type that was needed, and it was not called
 /// before.
 pub fn made_are_new()
     ensures { MadeAreNew }
@@ -29,14 +29,14 @@ pub fn made_are_new()
     hold();
 }
 
-/// An entry for which no object was needed makes nobody.
+/// Law: an entry for which no object was needed makes no component and starts no sequence.
 pub fn others_make_nobody()
     ensures { OthersMakeNobody }
 {
     hold();
 }
 
-/// Nobody is made twice: no number of a node is used again, and none of a sequence, on whichever sequencer.
+/// Law: no component or sequence is made twice. No number of a node or of a sequence is used again, on any sequencer.
 pub fn nobody_is_made_twice()
     ensures { NobodyIsMadeTwice }
 {

@@ -1,19 +1,19 @@
-//! Where each object sits: a component's by its node and its path, a sequence's by its number.
+//! The slots of all objects: of a component by its node and its path, of a sequence by its number.
 
 ghost use Rattle.std.specs.Prelude.{◌≡◌, ◌<◌, Contains, OnOk};
 ghost use Rattle.std.specs.List.Sorted.{IsPermutation};
 ghost use Rattle.std.specs.Map.{keys_of};
-ghost use Rattle.object_seats.specs.Asked.{IsAsked};
+ghost use Rattle.bench_kernel.specs.Asked.{IsAsked};
 ghost use Rattle.bench_kernel.specs.Seating.{IsFree, IsSeated, all_held};
-ghost use Rattle.object_seats.specs.Seats.{paths_in};
-ghost use Rattle.object_seats.specs.SequenceSeats.{AreRisingWithin};
+ghost use Rattle.bench_kernel.specs.Seats.{paths_in};
+ghost use Rattle.bench_kernel.specs.SequenceSeats.{AreRisingWithin};
 
-use object_seats::{Seats, SequenceSeats};
+use crate::{Seats, SequenceSeats};
 use std::alloc::{AllocError, Global};
 use uvm_glob::Path;
 use uvm_object::{Acts, Call, UvmObject, Who};
 
-// Makes room for one more of each kind.
+// Reserves capacity for one more slot of each kind. Errors: out of memory. An error changes no slot.
 pub(crate) fn reserve<O>(
     seats: &mut Seats<O>,
     sequences: &mut SequenceSeats<O>,
@@ -28,7 +28,7 @@ pub(crate) fn reserve<O>(
     sequences.reserve()
 }
 
-// Seats somebody, a component at its path. Takes no memory.
+// Stores the object of a component, with its path, or of a sequence. Requires reserved capacity and a free slot. Allocates no memory.
 pub(crate) fn seat<O>(
     seats: &mut Seats<O>,
     sequences: &mut SequenceSeats<O>,
@@ -47,7 +47,7 @@ pub(crate) fn seat<O>(
     }
 }
 
-// Somebody who sits hears a call.
+// Calls the object of a component or a sequence that has a slot, and returns its answer. Errors: out of memory in the object.
 pub(crate) fn hear<O: UvmObject>(
     seats: &mut Seats<O>,
     sequences: &mut SequenceSeats<O>,

@@ -1,33 +1,6 @@
 -- The log of a run over objects that are functions of their calls is determined.
-use Rattle.std.proofs.Common.{◌≡◌, ◌≢◌, ◌∙◌, ◌<◌, ◌≤◌, ℕ, zero, suc, Bool, true, false, List, [], ◌∷◌, ◌++◌, length, get_or, nat_le, Option, Some, None, inl, inr, refl, sym, ap, subst, arith}
-use Rattle.std.proofs.lemmas.Bool.Decides.{nat_tests}
-use Rattle.std.proofs.lemmas.List.Elements.{All-contains, Contains-get_or}
-use Rattle.std.proofs.lemmas.Map.Keys.{IsDistinct-head, IsDistinct-tail}
-use Rattle.std.proofs.lemmas.Option.{same_Some}
-use Rattle.std.specs.Prelude.{◌==◌, ◌⊎◌, All, Contains, IfSome, is_some}
-use Rattle.std.specs.List.{IsDistinct, cons_option}
-use Rattle.std.specs.Map.{keys_of}
-use Rattle.rand_core.specs.Stream.{Stream, next_u64}
-use Rattle.uvm_object.specs.declared.entries.Origin.{Origin}
-use Rattle.uvm_acts.specs.declared.acts.Who.{Who}
-use Rattle.uvm_acts.specs.declared.acts.Call.{Call}
-use Rattle.uvm_acts.specs.declared.acts.Act.{Act}
+use Rattle.bench_run.proofs.Common.{◌≡◌, ◌≢◌, ◌∙◌, ◌<◌, ◌≤◌, ℕ, zero, suc, true, false, List, [], ◌∷◌, ◌++◌, length, get_or, nat_le, Option, Some, None, inl, inr, refl, sym, ap, subst, arith, nat_tests, All-contains, Contains-get_or, IsDistinct-head, IsDistinct-tail, same_Some, ◌==◌, ◌⊎◌, All, Contains, is_some, IsDistinct, cons_option, keys_of, Stream, next_u64, Origin, Who, Call, Act, Made, Started, Entry, Did, Granted, Heard, Exchange, IsHonest, Says, View, exchanged_in, life_of, same_who, ScriptValue, Next, Exactly, Answer, Grant, Nothing, Allows, EachIsNext, next_of, NothingAfterOver, log_limit, types_made, NobodyIsMadeTwice, word_in, HasWordsOf, stream_after, words_drawn, log_words, AreMade, HasLived, HaveLived, IsFilled, IsGiven, IsHonestBetween, IsUnknown, first_of, AllowsOneAtMost, IsSpent, IsRunLog, RunsAreFunctions, Bool, IfSome, Need}
 use Rattle.uvm_object.specs.declared.entries.Grant as entries
-use Rattle.uvm_object.specs.declared.entries.Outcome.TheVariants.{Made, Started}
-use Rattle.uvm_object.specs.declared.entries.Entry.{Entry}
-use Rattle.uvm_object.specs.declared.entries.Entry.TheVariants.{Did, Granted, Heard}
-use Rattle.uvm_object.specs.Objects.{Exchange, IsHonest, Says, View, exchanged_in, life_of, same_who}
-use Rattle.bench_script.specs.Scripts.{ScriptValue}
-use Rattle.bench_history.specs.Cases.{Next, Exactly, Answer, Need, Grant, Nothing}
-use Rattle.bench_history.specs.Next.{Allows, EachIsNext, next_of}
-use Rattle.bench_history.specs.Laws.{NothingAfterOver}
-use Rattle.bench_history.specs.Limits.{log_limit}
-use Rattle.bench_kernel.specs.Kernels.{types_made}
-use Rattle.bench_kernel.specs.Laws.{NobodyIsMadeTwice}
-use Rattle.bench_kernel.specs.Cores.{word_in}
-use Rattle.bench_run.specs.Words.{HasWordsOf, stream_after, words_drawn, log_words}
-use Rattle.bench_run.specs.Lives.{AreMade, HasLived, HaveLived, IsFilled, IsGiven, IsHonestBetween, IsUnknown, first_of}
-use Rattle.bench_run.specs.Laws.{AllowsOneAtMost, IsSpent, IsRunLog, RunsAreFunctions}
 use Rattle.bench_run.proofs.Lives.{All-from_recursion, contains-key, heard-same, same_who-self}
 
 -- ---- the words of an older part of a log
@@ -45,7 +18,7 @@ word-next words word older is = cc
 
 -- ---- who was made, in an older part
 
--- an entry makes nobody, or one
+-- an entry makes no component or sequence, or one
 made-before : (script : ScriptValue) (entry : Entry) (history : List Entry)
     → (types_made script (entry ∷ history) ≡ types_made script history) ⊎ ((made : Who × List ℕ) × (types_made script (entry ∷ history) ≡ made ∷ types_made script history))
 made-before script (Did performer (Made type_name) act) history = inr (_, refl)
@@ -148,17 +121,17 @@ asked-older script entry history made = made
 
 module _ {O : Type 0} (view : O → View) (name : O → List ℕ) (says : O → Says) (over : NothingAfterOver) (twice : NobodyIsMadeTwice)
     (one : (object : O) (before : View) (call : Call) → AllowsOneAtMost (says object before call)) (given : List ℕ → Option O) (words : Stream) (script : ScriptValue) where
-  abbrev Gives : List ℕ → Option O → Type 0
-  Gives type_name object = object ≡ given type_name
+  abbrev Makes : List ℕ → Option O → Type 0
+  Makes type_name object = object ≡ given type_name
 
   abbrev Lived : List Entry → Who → Type 0
-  Lived = HasLived view name says Gives script
+  Lived = HasLived view name says Makes script
 
   abbrev Log : List Entry → Type 0
   Log = IsRunLog view name says given words script
 
   -- who has lived had lived before the newest entry
-  lived-older : (entry : Entry) (history : List Entry) → EachIsNext script (entry ∷ history) → HaveLived view name says Gives script (entry ∷ history) → (who : Who) → Contains (keys_of (types_made script history)) who → Lived history who
+  lived-older : (entry : Entry) (history : List Entry) → EachIsNext script (entry ∷ history) → HaveLived view name says Makes script (entry ∷ history) → (who : Who) → Contains (keys_of (types_made script history)) who → Lived history who
   lived-older entry history each lived who named = go (made-before script entry history)
     where
       from : (was : Lived (entry ∷ history) who) → Contains (types_made script history) (who, was.type_name) → Lived history who
@@ -203,7 +176,7 @@ module _ {O : Type 0} (view : O → View) (name : O → List ℕ) (says : O → 
           (subst (IsHonestBetween (says also.object) (view also.object) also.last) (heard-same hearer call origin others history) also.honest))
 
   -- an object is given, or it is not
-  clash : (type_name : List ℕ) (object : O) → IsGiven view name says Gives type_name object → IsUnknown view name says Gives type_name → ⊥
+  clash : (type_name : List ℕ) (object : O) → IsGiven view name says Makes type_name object → IsUnknown view name says Makes type_name → ⊥
   clash type_name object gave unknown =
       let same : unknown.given ≡ Some object = unknown.gives ∙ sym gave.gives in
       (subst (λ (g : Option O). IfSome g (λ object. name object ≢ type_name)) same unknown.none) gave.named
@@ -220,7 +193,7 @@ module _ {O : Type 0} (view : O → View) (name : O → List ℕ) (says : O → 
   same-entry : (history : List Entry) (entry other : Entry) → Log (entry ∷ history) → Log (other ∷ history) → other ≡ entry
   same-entry history entry other log also = go (next_of script history) log.legal.each.0 also.legal.each.0 log.objects.filled.0 also.objects.filled.0
     where
-      go : (comes : Next) → Allows comes entry → Allows comes other → IsFilled view name says Gives comes entry → IsFilled view name says Gives comes other → other ≡ entry
+      go : (comes : Next) → Allows comes entry → Allows comes other → IsFilled view name says Makes comes entry → IsFilled view name says Makes comes other → other ≡ entry
       go (Exactly expected) is are filled fills = are ∙ sym is
       go (Answer hearer call origin) is are filled fills =
           are.1 ∙ ap (Heard hearer origin call) (same-answer history hearer call origin is.0 are.0 (subst (λ (e : Entry). Log (e ∷ history)) is.1 log) (subst (λ (e : Entry). Log (e ∷ history)) are.1 also)) ∙ sym is.1

@@ -1,25 +1,6 @@
 -- A run that is not over, and one that breaks off.
-use Rattle.std.proofs.Common.{◌≡◌, ◌≢◌, ◌<◌, ◌≤◌, ℕ, Bool, true, false, List, [], ◌∷◌, ◌++◌, length, Option, Some, None, Result, Ok, Err, ap, refl, sym, ◌∙◌, subst, if◌then◌else◌, append-nil, arith, suc, lit≤}
-use Rattle.std.specs.Result.{IsErrAnd}
-use Rattle.std.proofs.lemmas.List.{append_assoc}
-use Rattle.std.specs.Io.KnownBytes.{Appends}
-use Rattle.std.proofs.KnownBytes.{Appends-kept}
-use Rattle.bench_script.specs.Scripts.{ScriptValue}
-use Rattle.bench_history.specs.Limits.{log_limit}
-use Rattle.bench_history.specs.History.{is_over}
-use Rattle.bench_history.specs.Next.{IsLegal}
-use Rattle.bench_kernel.specs.Health.{Health}
-use Rattle.bench_kernel.specs.Health.TheVariants.{Good}
-use Rattle.bench_kernel.specs.Cores.{CoreValue, is_sound, last_text}
-use Rattle.uvm_object.specs.Objects.{Says, View}
-use Rattle.uvm_acts.specs.declared.acts.Who.{Who}
-use Rattle.bench_kernel.specs.Kernels.{KernelValue}
-use Rattle.bench_kernel.specs.Steps.{IsBack, IsSameLog}
-use Rattle.bench_run.specs.declared.endings.Ending.{Ending}
-use Rattle.bench_run.specs.declared.faults.RunFault.{RunFault}
+use Rattle.bench_run.proofs.Common.{◌≡◌, ◌≢◌, ◌<◌, ◌≤◌, ℕ, true, false, List, [], ◌∷◌, ◌++◌, length, Option, Some, None, Result, Ok, Err, ap, refl, sym, ◌∙◌, subst, if◌then◌else◌, append-nil, arith, suc, lit≤, IsErrAnd, append_assoc, Appends, Appends-kept, ScriptValue, log_limit, is_over, IsLegal, Health, Good, CoreValue, is_sound, last_text, Says, View, Who, KernelValue, IsBack, IsSameLog, RunResult, RunFault, some-room, BrokeOffRun, Grows, HasTold, IsHalted, IsUnwritten, LeavesRun, transcript, Bool}
 use Rattle.bench_run.specs.declared.faults.RunFault.TheVariants as fault
-use Rattle.bench_run.specs.Texts.{some-room}
-use Rattle.bench_run.specs.Running.{BrokeOffRun, Grows, HasTold, IsHalted, IsUnwritten, LeavesRun, transcript}
 
 -- what is written after what was written
 pub Appends-more : (old mid new : Option (List ℕ)) (xs ys : List ℕ) → Appends old mid xs → Appends mid new ys → Appends old new (xs ++ ys)
@@ -51,12 +32,12 @@ goes-on trace old new script first half last grown good same wrote =
 
 -- one more entry, whose text was not written
 pub breaks-off :
-    (result : Result Ending RunFault) (why : RunFault) (trace : Bool) (old new : CoreValue) (script : ScriptValue) (first half last : Option (List ℕ))
+    (result : Result RunResult RunFault) (why : RunFault) (trace : Bool) (old new : CoreValue) (script : ScriptValue) (first half last : Option (List ℕ))
     → IsErrAnd result (λ told. told ≡ why) → Grows old new → new.script ≡ script → IsLegal script old.history → IsLegal new.script new.history
     → Appends first half (transcript trace script old.history) → IsUnwritten why half last
     → (why ≡ fault.Memory → last_text trace new.script new.history ≢ [])
     → LeavesRun script trace new.history first last result
-breaks-off (Ok ending) why trace old new script first half last told grown same legal more wrote unwritten lost = absurd told
+breaks-off (Ok run_result) why trace old new script first half last told grown same legal more wrote unwritten lost = absurd told
 breaks-off (Err given) why trace old new script first half last told grown same legal more wrote unwritten lost =
     go given (subst (λ fault. IsUnwritten fault half last) (sym told) unwritten) (subst (λ (told_fault : RunFault). told_fault ≡ fault.Memory → last_text trace new.script new.history ≢ []) (sym told) lost)
   where
@@ -79,11 +60,11 @@ breaks-off (Err given) why trace old new script first half last told grown same 
 
 -- no more entry
 pub halts :
-    (result : Result Ending RunFault) (why : RunFault) (trace failed : Bool) (old new : CoreValue) (script : ScriptValue) (first last : Option (List ℕ))
+    (result : Result RunResult RunFault) (why : RunFault) (trace failed : Bool) (old new : CoreValue) (script : ScriptValue) (first last : Option (List ℕ))
     → IsErrAnd result (λ told. told ≡ why) → IsHalted why failed old → IsSameLog old new → (failed ≡ true → length old.history < log_limit script) → IsLegal old.script old.history → old.script ≡ script
     → Appends first last (transcript trace script old.history)
     → LeavesRun script trace new.history first last result
-halts (Ok ending) why trace failed old new script first last told halted same room legal is wrote = absurd told
+halts (Ok run_result) why trace failed old new script first last told halted same room legal is wrote = absurd told
 halts (Err given) why trace failed old new script first last told halted same room legal is wrote =
     go given (subst (λ fault. IsHalted fault failed old) (sym told) halted)
   where
@@ -123,11 +104,11 @@ told-log old new told = record { script = ap (λ (core : CoreValue). core.script
 
 -- the run is over, and its summary was not written
 pub unsummed :
-    (result : Result Ending RunFault) (why : RunFault) (trace : Bool) (old new : CoreValue) (script : ScriptValue) (first half last : Option (List ℕ))
+    (result : Result RunResult RunFault) (why : RunFault) (trace : Bool) (old new : CoreValue) (script : ScriptValue) (first half last : Option (List ℕ))
     → IsErrAnd result (λ told. told ≡ why) → IsSameLog old new → is_over old.history ≡ true → IsLegal old.script old.history → old.script ≡ script
     → Appends first half (transcript trace script old.history) → IsUnwritten why half last
     → LeavesRun script trace new.history first last result
-unsummed (Ok ending) why trace old new script first half last told same over legal is wrote unwritten = absurd told
+unsummed (Ok run_result) why trace old new script first half last told same over legal is wrote unwritten = absurd told
 unsummed (Err given) why trace old new script first half last told same over legal is wrote unwritten =
     go given (subst (λ fault. IsUnwritten fault half last) (sym told) unwritten)
   where

@@ -1,6 +1,7 @@
-pub mod Goings
-pub mod Words
-pub mod Lives
-pub mod Texts
+mod Common
 pub mod Determined
 pub mod Ends
+pub mod Goings
+pub mod Lives
+pub mod Texts
+pub mod Words

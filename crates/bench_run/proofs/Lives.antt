@@ -1,37 +1,6 @@
 -- How what is said of the objects of a run stays true.
-use Rattle.std.proofs.Common.{◌≡◌, ◌≢◌, ◌∙◌, ℕ, zero, suc, true, false, List, [], ◌∷◌, length, ◌<◌, get_or, Option, Some, None, Result, Ok, Bor, IfSome, IsSome, inl, inr, refl, sym, ap, subst, arith}
-use Rattle.std.proofs.lemmas.Bool.Decides.{nat_tests}
-use Rattle.std.proofs.lemmas.List.Elements.{All-cons, All-head, All-tail, All-weaker, All-nil}
-use Rattle.std.proofs.lemmas.List.Sorted.{All-permutation, IsPermutation-sym, IsPermutation-map}
-use Rattle.std.proofs.lemmas.Map.Keys.{IsDistinct-head, IsDistinct-IsPermutation}
-use Rattle.std.proofs.lemmas.Option.{same_Some}
-use Rattle.std.specs.Prelude.{◌==◌, ◌&&◌, ◌⊎◌, All, Bool, Contains}
-use Rattle.std.specs.Fn.{Shared}
-use Rattle.std.specs.declared.alloc.AllocError.{AllocError}
-use Rattle.std.specs.List.{AllByRecursion, IsDistinct}
-use Rattle.std.specs.Map.{keys_of}
-use Rattle.std.specs.Option.{option_map_or}
-use Rattle.uvm_object.specs.declared.entries.Origin.{Origin}
-use Rattle.uvm_acts.specs.declared.acts.Who.{Who}
-use Rattle.uvm_acts.specs.declared.acts.Who.TheVariants.{Node, Sequence}
-use Rattle.uvm_acts.specs.declared.acts.Call.{Call}
-use Rattle.uvm_acts.specs.declared.acts.Act.{Act}
-use Rattle.uvm_object.specs.declared.fatals.Fatal.TheVariants.{NoObject}
-use Rattle.uvm_object.specs.declared.entries.Outcome.TheVariants.{Refused}
-use Rattle.uvm_object.specs.declared.entries.Entry.{Entry}
-use Rattle.uvm_object.specs.declared.entries.Entry.TheVariants.{Did, Heard}
-use Rattle.uvm_object.specs.Objects.{Exchange, SameSays, Says, View, exchanged_in, life_of, same_who}
-use Rattle.bench_script.specs.Scripts.{ScriptValue}
+use Rattle.bench_run.proofs.Common.{◌≡◌, ◌≢◌, ◌∙◌, ℕ, zero, suc, true, false, List, [], ◌∷◌, length, ◌<◌, get_or, Option, Some, None, Result, Ok, Bor, IsSome, inl, inr, refl, sym, ap, subst, arith, nat_tests, All-cons, All-head, All-tail, All-weaker, All-nil, All-permutation, IsPermutation-sym, IsPermutation-map, IsDistinct-head, IsDistinct-IsPermutation, same_Some, ◌==◌, ◌&&◌, ◌⊎◌, All, Contains, Shared, AllocError, AllByRecursion, IsDistinct, keys_of, option_map_or, Origin, Who, Node, Sequence, Call, Act, NoObject, Refused, Entry, Did, Heard, Exchange, SameSays, Says, View, exchanged_in, life_of, same_who, ScriptValue, Next, Exactly, Answer, Grant, Nothing, Allows, EachIsNext, declined_in, made_in, need_in, next_of, CoreValue, core_after, IsAsked, KernelValue, WasMade, needed_type, open_need, types_made, wanted_in, IsMadeNew, MadeAreNew, OthersMakeNobody, IsBack, IsMoved, IsSameLog, IsSupplied, IsWaiting, WasGiven, IsDeclined, AreKept, AreMade, HasLived, HaveLived, IsFilled, IsGiven, IsHonestBetween, IsKept, IsUnknown, MayGive, IfSome, Bool, Need}
 use Rattle.bench_history.specs.declared.needs.Need as declared
-use Rattle.bench_history.specs.Cases.{Next, Exactly, Answer, Need, Grant, Nothing}
-use Rattle.bench_history.specs.Next.{Allows, EachIsNext, declined_in, made_in, need_in, next_of}
-use Rattle.bench_kernel.specs.Cores.{CoreValue, core_after}
-use Rattle.object_seats.specs.Asked.{IsAsked}
-use Rattle.bench_kernel.specs.Kernels.{KernelValue, WasMade, needed_type, open_need, types_made, wanted_in}
-use Rattle.bench_kernel.specs.Laws.{IsMadeNew, MadeAreNew, OthersMakeNobody}
-use Rattle.bench_kernel.specs.Steps.{IsBack, IsMoved, IsSameLog, IsSupplied, IsWaiting, WasGiven}
-use Rattle.bench_run.specs.Running.{IsDeclined}
-use Rattle.bench_run.specs.Lives.{AreKept, AreMade, HasLived, HaveLived, IsFilled, IsGiven, IsHonestBetween, IsKept, IsUnknown, MayGive}
 
 -- what a call of a closure gave for the name of a type, it may give
 pub may-give : {F O : Type 0} (closure : Shared F (Bor (List ℕ) × Unit {0}) (Result (Option O) AllocError)) (make : F) (shown : Bor (List ℕ)) (result : Result (Option O) AllocError) (type_name : List ℕ) (given : Option O)
@@ -99,7 +68,7 @@ contains-key (first ∷ types) made there = go (contains-key types made) there.0
     go rest zero within is = (0, omega arith, ap (λ (m : Who × List ℕ). m.0) is)
     go rest (suc k) within is = let there = rest (k, omega (arith, within), is) in (suc there.0, omega (arith, there.1), there.2)
 
--- an entry that is nobody's answer asks nobody
+-- an entry that is not an answer asks no component or sequence
 silent-made : (script : ScriptValue) (entry : Entry) (history : List Entry) → ((who : Who) → exchanged_in who entry ≡ []) → AreMade script history → AreMade script (entry ∷ history)
 silent-made script (Heard performer origin call acts) history silent made = absurd (let bad = rw (same_who-self performer) at (silent performer) in cc)
 silent-made script entry history silent made = made
@@ -114,7 +83,7 @@ SameSays-chain : (says others last : Says) → SameSays says others → SameSays
 SameSays-chain says others last same more before call acts after =
     ((λ s. (more before call acts after).0 ((same before call acts after).0 s)), (λ s. (same before call acts after).1 ((more before call acts after).1 s)))
 
--- the entry of an object that was needed is nobody's answer
+-- the entry of an object that was needed is not an answer
 made-silent : (comes : Next) (entry : Entry) (who : Who) → made_in comes ≡ Some entry → exchanged_in who entry ≡ []
 made-silent (Need need made performer act) entry who is = subst (λ (e : Entry). exchanged_in who e ≡ []) (same_Some (Did performer made act) entry is) refl
 made-silent (Exactly expected) entry who is = cc
@@ -151,7 +120,7 @@ declined-silent (Answer hearer call origin) entry who is = cc
 declined-silent (Grant sequencer drawn chosen) entry who is = cc
 declined-silent Nothing entry who is = cc
 
--- nobody is held before the first entry
+-- no component or sequence is held before the first entry
 nobody-held : {O : Type 0} (held : List (Who × O)) → All (WasMade []) (keys_of held) → held ≡ []
 nobody-held [] made = refl
 nobody-held (seat ∷ held) made = absurd (nobody seat.0 (All-head (WasMade []) seat.0 (keys_of held) made))
@@ -160,12 +129,12 @@ nobody-held (seat ∷ held) made = absurd (nobody seat.0 (All-head (WasMade []) 
     nobody (Node node) there = let low = there.1 in absurd (omega (arith, low))
     nobody (Sequence home id) there = let low = there.1 in absurd (omega (arith, low))
 
-module _ {O : Type 0} (view : O → View) (name : O → List ℕ) (says : O → Says) (Gives : List ℕ → Option O → Type 0) where
+module _ {O : Type 0} (view : O → View) (name : O → List ℕ) (says : O → Says) (Makes : List ℕ → Option O → Type 0) where
   abbrev Lived : ScriptValue → List Entry → Who → Type 0
-  Lived = HasLived view name says Gives
+  Lived = HasLived view name says Makes
 
-  abbrev Kept : ScriptValue → List Entry → Who × O → Type 0
-  Kept = IsKept view name says Gives
+  abbrev Stays : ScriptValue → List Entry → Who × O → Type 0
+  Stays = IsKept view name says Makes
 
   -- who has lived has one entry later, if it was asked nothing in it
   lived-later : (script : ScriptValue) (entry : Entry) (history : List Entry) (who : Who) → ((made : Who × List ℕ) → Contains (types_made script history) made → Contains (types_made script (entry ∷ history)) made)
@@ -181,7 +150,7 @@ module _ {O : Type 0} (view : O → View) (name : O → List ℕ) (says : O → 
       }
 
   kept-later : (script : ScriptValue) (entry : Entry) (history : List Entry) (seat : Who × O) → ((made : Who × List ℕ) → Contains (types_made script history) made → Contains (types_made script (entry ∷ history)) made)
-      → life_of seat.0 (entry ∷ history) ≡ life_of seat.0 history → Kept script history seat → Kept script (entry ∷ history) seat
+      → life_of seat.0 (entry ∷ history) ≡ life_of seat.0 history → Stays script history seat → Stays script (entry ∷ history) seat
   kept-later script entry history seat stays same kept =
       record {
         type_name = kept.type_name;
@@ -193,7 +162,7 @@ module _ {O : Type 0} (view : O → View) (name : O → List ℕ) (says : O → 
       }
 
   -- who is held has lived
-  kept-lived : (script : ScriptValue) (history : List Entry) (seat : Who × O) → Kept script history seat → Lived script history seat.0
+  kept-lived : (script : ScriptValue) (history : List Entry) (seat : Who × O) → Stays script history seat → Lived script history seat.0
   kept-lived script history seat kept =
       record { type_name = kept.type_name; made = kept.made; object = kept.object; given = kept.given; last = view seat.1; honest = kept.honest }
 
@@ -206,32 +175,32 @@ module _ {O : Type 0} (view : O → View) (name : O → List ℕ) (says : O → 
       (IsDistinct-IsPermutation same_who same_who-flips (keys_of old) (who ∷ keys_of asked.others)
       (IsPermutation-map (λ (seat : Who × O). seat.0) old ((who, asked.before) ∷ asked.others) (IsPermutation-sym ((who, asked.before) ∷ asked.others) old asked.was)) distinct))
 
-  -- nothing was made and nobody lived
-  pub begins : (kernel : KernelValue O) → kernel.core.history ≡ [] → All (WasMade kernel.core.history) (keys_of kernel.held) → AreKept view name says Gives kernel
+  -- nothing was made and no component or sequence lived
+  pub begins : (kernel : KernelValue O) → kernel.core.history ≡ [] → All (WasMade kernel.core.history) (keys_of kernel.held) → AreKept view name says Makes kernel
   begins kernel none made =
       let held : kernel.held ≡ [] = nobody-held kernel.held (subst (λ history. All (WasMade history) (keys_of kernel.held)) none made) in
       record {
         each = rw none tt;
         lived = rw none (record { filled = tt; asked = tt; lived = All-nil (Lived kernel.core.script []) });
-        kept = rw held (All-nil (Kept kernel.core.script kernel.core.history));
+        kept = rw held (All-nil (Stays kernel.core.script kernel.core.history));
       }
 
   -- one who has ended is given back
-  pub kept-back : (who : Who) (object : O) (old new : KernelValue O) → IsBack view name says who object old new → AreKept view name says Gives old → AreKept view name says Gives new
+  pub kept-back : (who : Who) (object : O) (old new : KernelValue O) → IsBack view name says who object old new → AreKept view name says Makes old → AreKept view name says Makes new
   kept-back who object old new back kept =
-      subst (AreKept view name says Gives) (sym back.is)
+      subst (AreKept view name says Makes) (sym back.is)
       (record {
         each = kept.each;
         lived = kept.lived;
-        kept = All-tail (Kept old.core.script old.core.history) (who, object) new.held
-            (All-permutation (Kept old.core.script old.core.history) old.held ((who, object) ∷ new.held) (IsPermutation-sym ((who, object) ∷ new.held) old.held back.held) kept.kept);
+        kept = All-tail (Stays old.core.script old.core.history) (who, object) new.held
+            (All-permutation (Stays old.core.script old.core.history) old.held ((who, object) ∷ new.held) (IsPermutation-sym ((who, object) ∷ new.held) old.held back.held) kept.kept);
       })
 
-  -- an entry that is nobody's answer, and makes nobody
+  -- an entry that is not an answer, and makes no component or sequence
   silent-kept : (script : ScriptValue) (entry : Entry) (history : List Entry) (held : List (Who × O)) → ((who : Who) → exchanged_in who entry ≡ []) → types_made script (entry ∷ history) ≡ types_made script history
-      → Allows (next_of script history) entry → IsFilled view name says Gives (next_of script history) entry → EachIsNext script history
-      → HaveLived view name says Gives script history → All (Kept script history) held
-      → EachIsNext script (entry ∷ history) × HaveLived view name says Gives script (entry ∷ history) × All (Kept script (entry ∷ history)) held
+      → Allows (next_of script history) entry → IsFilled view name says Makes (next_of script history) entry → EachIsNext script history
+      → HaveLived view name says Makes script history → All (Stays script history) held
+      → EachIsNext script (entry ∷ history) × HaveLived view name says Makes script (entry ∷ history) × All (Stays script (entry ∷ history)) held
   silent-kept script entry history held silent types allowed filled each lived kept =
       let stays : (made : Who × List ℕ) → Contains (types_made script history) made → Contains (types_made script (entry ∷ history)) made = λ made there. subst (λ all. Contains all made) (sym types) there in (
         (allowed, each),
@@ -241,14 +210,14 @@ module _ {O : Type 0} (view : O → View) (name : O → List ℕ) (says : O → 
           lived = subst (λ (all : List (Who × List ℕ)). All (Lived script (entry ∷ history)) (keys_of all)) (sym types)
               (All-weaker (Lived script history) (Lived script (entry ∷ history)) (λ who was. lived-later script entry history who stays (silent-same who entry history (silent who)) was) (keys_of (types_made script history)) lived.lived);
         },
-        All-weaker (Kept script history) (Kept script (entry ∷ history)) (λ seat was. kept-later script entry history seat stays (silent-same seat.0 entry history (silent seat.0)) was) held kept,
+        All-weaker (Stays script history) (Stays script (entry ∷ history)) (λ seat was. kept-later script entry history seat stays (silent-same seat.0 entry history (silent seat.0)) was) held kept,
       )
 
-  -- somebody's answer
+  -- the answer of a component or sequence
   heard-kept : (script : ScriptValue) (performer : Who) (call : Call) (origin : Option Origin) (acts : List Act) (history : List Entry) (old new : List (Who × O)) → IsAsked view name says performer call (Ok acts) old new
-      → IsDistinct same_who (keys_of old) → Allows (next_of script history) (Heard performer origin call acts) → IsFilled view name says Gives (next_of script history) (Heard performer origin call acts) → EachIsNext script history
-      → HaveLived view name says Gives script history → All (Kept script history) old
-      → EachIsNext script (Heard performer origin call acts ∷ history) × HaveLived view name says Gives script (Heard performer origin call acts ∷ history) × All (Kept script (Heard performer origin call acts ∷ history)) new
+      → IsDistinct same_who (keys_of old) → Allows (next_of script history) (Heard performer origin call acts) → IsFilled view name says Makes (next_of script history) (Heard performer origin call acts) → EachIsNext script history
+      → HaveLived view name says Makes script history → All (Stays script history) old
+      → EachIsNext script (Heard performer origin call acts ∷ history) × HaveLived view name says Makes script (Heard performer origin call acts ∷ history) × All (Stays script (Heard performer origin call acts ∷ history)) new
   heard-kept script performer call origin acts history old new asked distinct allowed filled each lived kept = (
     (allowed, each),
     record {
@@ -256,8 +225,8 @@ module _ {O : Type 0} (view : O → View) (name : O → List ℕ) (says : O → 
       asked = (contains-key (types_made script history) (performer, was.type_name) was.made, lived.asked);
       lived = All-weaker (Lived script history) (Lived script after) (λ who was. by-who who (same_who performer who) refl was) (keys_of (types_made script history)) lived.lived;
     },
-    All-permutation (Kept script after) ((performer, asked.after) ∷ asked.others) new asked.is
-        (All-cons (Kept script after) (performer, asked.after) asked.others performed
+    All-permutation (Stays script after) ((performer, asked.after) ∷ asked.others) new asked.is
+        (All-cons (Stays script after) (performer, asked.after) asked.others performed
         (λ k d h. other (get_or asked.others k d) (apart k d h) (rest k d h))),
   )
     where
@@ -267,22 +236,22 @@ module _ {O : Type 0} (view : O → View) (name : O → List ℕ) (says : O → 
       stays : (made : Who × List ℕ) → Contains (types_made script history) made → Contains (types_made script after) made
       stays made there = there
 
-      were : All (Kept script history) ((performer, asked.before) ∷ asked.others)
-      were = All-permutation (Kept script history) old ((performer, asked.before) ∷ asked.others) (IsPermutation-sym ((performer, asked.before) ∷ asked.others) old asked.was) kept
+      were : All (Stays script history) ((performer, asked.before) ∷ asked.others)
+      were = All-permutation (Stays script history) old ((performer, asked.before) ∷ asked.others) (IsPermutation-sym ((performer, asked.before) ∷ asked.others) old asked.was) kept
 
-      rest : All (Kept script history) asked.others
-      rest = All-tail (Kept script history) (performer, asked.before) asked.others were
+      rest : All (Stays script history) asked.others
+      rest = All-tail (Stays script history) (performer, asked.before) asked.others were
 
       apart : All (λ (seat : Who × O). same_who performer seat.0 ≡ false) asked.others
       apart = others-differ performer call acts old new asked distinct
 
-      other : (seat : Who × O) → same_who performer seat.0 ≡ false → Kept script history seat → Kept script after seat
+      other : (seat : Who × O) → same_who performer seat.0 ≡ false → Stays script history seat → Stays script after seat
       other seat differs was = kept-later script (Heard performer origin call acts) history seat stays (heard-other performer seat.0 call origin acts history differs) was
 
-      was : Kept script history (performer, asked.before)
-      was = All-head (Kept script history) (performer, asked.before) asked.others were
+      was : Stays script history (performer, asked.before)
+      was = All-head (Stays script history) (performer, asked.before) asked.others were
 
-      performed : Kept script after (performer, asked.after)
+      performed : Stays script after (performer, asked.after)
       performed = record {
         type_name = was.type_name;
         made = was.made;
@@ -297,7 +266,7 @@ module _ {O : Type 0} (view : O → View) (name : O → List ℕ) (says : O → 
       by-who who true is lived = subst (Lived script after) (same_who-true performer who is) (kept-lived script after (performer, asked.after) performed)
       by-who who false is lived = lived-later script (Heard performer origin call acts) history who stays (heard-other performer who call origin acts history is) lived
 
-  unneeded-filled : (comes : Next) (entry : Entry) → need_in comes ≡ None → IsFilled view name says Gives comes entry
+  unneeded-filled : (comes : Next) (entry : Entry) → need_in comes ≡ None → IsFilled view name says Makes comes entry
   unneeded-filled (Need need made performer act) entry none = cc
   unneeded-filled (Exactly expected) entry none = tt
   unneeded-filled (Answer hearer call origin) entry none = tt
@@ -305,47 +274,47 @@ module _ {O : Type 0} (view : O → View) (name : O → List ℕ) (says : O → 
   unneeded-filled Nothing entry none = tt
 
   -- an entry for which no object was needed
-  pub kept-moved : OthersMakeNobody → (old new : KernelValue O) → IsMoved view name says old new → IsDistinct same_who (keys_of old.held) → AreKept view name says Gives old → AreKept view name says Gives new
+  pub kept-moved : OthersMakeNobody → (old new : KernelValue O) → IsMoved view name says old new → IsDistinct same_who (keys_of old.held) → AreKept view name says Makes old → AreKept view name says Makes new
   kept-moved law old new moved distinct kept =
       let all = go moved.entry new.held moved.given moved.next (unneeded-filled (next_of old.core.script old.core.history) moved.entry moved.unneeded) (law old.core.script old.core.history moved.entry moved.unneeded moved.next) in
-      subst (AreKept view name says Gives) (sym moved.is) (record { each = all.0; lived = all.1; kept = all.2 })
+      subst (AreKept view name says Makes) (sym moved.is) (record { each = all.0; lived = all.1; kept = all.2 })
     where
-      go : (entry : Entry) (held : List (Who × O)) → WasGiven view name says entry old.held held → Allows (next_of old.core.script old.core.history) entry → IsFilled view name says Gives (next_of old.core.script old.core.history) entry
+      go : (entry : Entry) (held : List (Who × O)) → WasGiven view name says entry old.held held → Allows (next_of old.core.script old.core.history) entry → IsFilled view name says Makes (next_of old.core.script old.core.history) entry
           → types_made old.core.script (entry ∷ old.core.history) ≡ types_made old.core.script old.core.history
-          → EachIsNext old.core.script (entry ∷ old.core.history) × HaveLived view name says Gives old.core.script (entry ∷ old.core.history) × All (Kept old.core.script (entry ∷ old.core.history)) held
+          → EachIsNext old.core.script (entry ∷ old.core.history) × HaveLived view name says Makes old.core.script (entry ∷ old.core.history) × All (Stays old.core.script (entry ∷ old.core.history)) held
       go (Heard performer origin call acts) held given allowed filled types =
           heard-kept old.core.script performer call origin acts old.core.history old.held held given distinct allowed filled kept.each kept.lived kept.kept
       go entry held given allowed filled types =
-          silent-kept old.core.script entry old.core.history held (λ who. refl) types allowed filled kept.each kept.lived (subst (All (Kept old.core.script old.core.history)) (sym given) kept.kept)
+          silent-kept old.core.script entry old.core.history held (λ who. refl) types allowed filled kept.each kept.lived (subst (All (Stays old.core.script old.core.history)) (sym given) kept.kept)
 
   -- an object was needed and declined, since none is given for its type
   pub kept-declined : (old new : KernelValue O) → IfSome (declined_in (next_of old.core.script old.core.history)) (λ entry. new ≡ record old { core = core_after entry old.core }) → IsSome (declined_in (next_of old.core.script old.core.history))
-      → open_need old ≡ need_in (next_of old.core.script old.core.history) → IsUnknown view name says Gives (wanted_in old) → AreKept view name says Gives old → AreKept view name says Gives new
+      → open_need old ≡ need_in (next_of old.core.script old.core.history) → IsUnknown view name says Makes (wanted_in old) → AreKept view name says Makes old → AreKept view name says Makes new
   kept-declined old new becomes one asked unknown kept = go (declined_in (next_of old.core.script old.core.history)) refl becomes one
     where
       wanted : wanted_in old ≡ needed_type old.core.script old.core.history
       wanted = ap (λ (need : Option declared.Need). option_map_or (λ need. need.type_name) need []) asked
 
-      filled : (comes : Next) (entry : Entry) → declined_in comes ≡ Some entry → IsUnknown view name says Gives (option_map_or (λ need. need.type_name) (need_in comes) []) → IsFilled view name says Gives comes entry
+      filled : (comes : Next) (entry : Entry) → declined_in comes ≡ Some entry → IsUnknown view name says Makes (option_map_or (λ need. need.type_name) (need_in comes) []) → IsFilled view name says Makes comes entry
       filled (Need need made performer act) entry is none = inr (sym (same_Some (Did performer (Refused NoObject) act) entry is), none)
       filled (Exactly expected) entry is none = tt
       filled (Answer hearer call origin) entry is none = tt
       filled (Grant sequencer drawn chosen) entry is none = tt
       filled Nothing entry is none = tt
 
-      go : (declined : Option Entry) → declined_in (next_of old.core.script old.core.history) ≡ declined → IfSome declined (λ entry. new ≡ record old { core = core_after entry old.core }) → IsSome declined → AreKept view name says Gives new
+      go : (declined : Option Entry) → declined_in (next_of old.core.script old.core.history) ≡ declined → IfSome declined (λ entry. new ≡ record old { core = core_after entry old.core }) → IsSome declined → AreKept view name says Makes new
       go None is becomes one = let bad = one in cc
       go (Some entry) is becomes one =
           let all = silent-kept old.core.script entry old.core.history old.held (λ who. declined-silent (next_of old.core.script old.core.history) entry who is) (declined-types (next_of old.core.script old.core.history) entry old.core.script old.core.history is)
           (declined-allowed (next_of old.core.script old.core.history) entry is)
-          (filled (next_of old.core.script old.core.history) entry is (subst (IsUnknown view name says Gives) wanted unknown)) kept.each kept.lived kept.kept in
-          subst (AreKept view name says Gives) (sym becomes) (record { each = all.0; lived = all.1; kept = all.2 })
+          (filled (next_of old.core.script old.core.history) entry is (subst (IsUnknown view name says Makes) wanted unknown)) kept.each kept.lived kept.kept in
+          subst (AreKept view name says Makes) (sym becomes) (record { each = all.0; lived = all.1; kept = all.2 })
 
   -- an object was needed and supplied
-  pub kept-supplied : MadeAreNew → (object : O) (old new : KernelValue O) → IsSupplied view name says object old new → open_need old ≡ need_in (next_of old.core.script old.core.history) → Gives (wanted_in old) (Some object)
-      → AreKept view name says Gives old → AreKept view name says Gives new
+  pub kept-supplied : MadeAreNew → (object : O) (old new : KernelValue O) → IsSupplied view name says object old new → open_need old ≡ need_in (next_of old.core.script old.core.history) → Makes (wanted_in old) (Some object)
+      → AreKept view name says Makes old → AreKept view name says Makes new
   kept-supplied law object old new supplied asked gives kept =
-      subst (AreKept view name says Gives) (sym supplied.is)
+      subst (AreKept view name says Makes) (sym supplied.is)
       (record {
         each = (made-allowed (next_of script history) entry supplied.next, kept.each);
         lived = record {
@@ -355,9 +324,9 @@ module _ {O : Type 0} (view : O → View) (name : O → List ℕ) (says : O → 
               (All-cons (Lived script after) supplied.who (keys_of (types_made script history)) (kept-lived script after (supplied.who, object) newcomer)
               (All-weaker (Lived script history) (Lived script after) (λ who was. lived-later script entry history who stays (same who) was) (keys_of (types_made script history)) kept.lived.lived));
         };
-        kept = All-permutation (Kept script after) ((supplied.who, object) ∷ old.held) new.held supplied.held
-            (All-cons (Kept script after) (supplied.who, object) old.held newcomer
-            (All-weaker (Kept script history) (Kept script after) (λ seat was. kept-later script entry history seat stays (same seat.0) was) old.held kept.kept));
+        kept = All-permutation (Stays script after) ((supplied.who, object) ∷ old.held) new.held supplied.held
+            (All-cons (Stays script after) (supplied.who, object) old.held newcomer
+            (All-weaker (Stays script history) (Stays script after) (λ seat was. kept-later script entry history seat stays (same seat.0) was) old.held kept.kept));
       })
     where
       script : ScriptValue
@@ -378,8 +347,8 @@ module _ {O : Type 0} (view : O → View) (name : O → List ℕ) (says : O → 
       wanted : wanted_in old ≡ needed_type script history
       wanted = ap (λ (need : Option declared.Need). option_map_or (λ need. need.type_name) need []) asked
 
-      given : IsGiven view name says Gives (needed_type script history) object
-      given = subst (λ type_name. IsGiven view name says Gives type_name object) wanted (record { gives = gives; named = supplied.fits })
+      given : IsGiven view name says Makes (needed_type script history) object
+      given = subst (λ type_name. IsGiven view name says Makes type_name object) wanted (record { gives = gives; named = supplied.fits })
 
       same : (who : Who) → life_of who after ≡ life_of who history
       same who = silent-same who entry history (made-silent (next_of script history) entry who supplied.next)
@@ -387,7 +356,7 @@ module _ {O : Type 0} (view : O → View) (name : O → List ℕ) (says : O → 
       stays : (made : Who × List ℕ) → Contains (types_made script history) made → Contains (types_made script after) made
       stays made there = subst (λ all. Contains all made) (sym come.types) (suc there.0, omega (arith, there.1), there.2)
 
-      newcomer : Kept script after (supplied.who, object)
+      newcomer : Stays script after (supplied.who, object)
       newcomer = record {
         type_name = needed_type script history;
         made = subst (λ all. Contains all (supplied.who, needed_type script history)) (sym come.types) (0, omega arith, refl);
@@ -397,7 +366,7 @@ module _ {O : Type 0} (view : O → View) (name : O → List ℕ) (says : O → 
         honest = subst (IsHonestBetween (says object) (view object) (view object)) (sym (same supplied.who ∙ come.unasked)) (record { earlier = []; begins = refl; honest = tt });
       }
 
-      filled : (comes : Next) → made_in comes ≡ Some entry → IsGiven view name says Gives (option_map_or (λ need. need.type_name) (need_in comes) []) object → IsFilled view name says Gives comes entry
+      filled : (comes : Next) → made_in comes ≡ Some entry → IsGiven view name says Makes (option_map_or (λ need. need.type_name) (need_in comes) []) object → IsFilled view name says Makes comes entry
       filled (Need need made performer act) is given = inl (sym (same_Some (Did performer made act) entry is), object, given)
       filled (Exactly expected) is given = tt
       filled (Answer hearer call origin) is given = tt
@@ -405,15 +374,15 @@ module _ {O : Type 0} (view : O → View) (name : O → List ℕ) (says : O → 
       filled Nothing is given = tt
 
   -- an object was needed, and one is given: it was supplied, or it is of another type, and was declined
-  pub kept-filled : MadeAreNew → (object : O) (old new : KernelValue O) → open_need old ≡ need_in (next_of old.core.script old.core.history) → Gives (wanted_in old) (Some object)
-      → IsSupplied view name says object old new ⊎ ((name object ≢ wanted_in old) × IsDeclined old new) → AreKept view name says Gives old → AreKept view name says Gives new
+  pub kept-filled : MadeAreNew → (object : O) (old new : KernelValue O) → open_need old ≡ need_in (next_of old.core.script old.core.history) → Makes (wanted_in old) (Some object)
+      → IsSupplied view name says object old new ⊎ ((name object ≢ wanted_in old) × IsDeclined old new) → AreKept view name says Makes old → AreKept view name says Makes new
   kept-filled law object old new asked gives (inl supplied) kept = kept-supplied law object old new supplied asked gives kept
   kept-filled law object old new asked gives (inr declined) kept =
       kept-declined old new declined.1.becomes declined.1.one asked (record { given = Some object; gives = gives; none = declined.0 }) kept
 
   -- what a kernel waits for changes nothing of its objects
-  pub kept-waiting : (old new : KernelValue O) → IsWaiting view name says old new → AreKept view name says Gives old → AreKept view name says Gives new
-  kept-waiting old new waiting kept = subst (AreKept view name says Gives) (sym waiting.is) (record { each = kept.each; lived = kept.lived; kept = kept.kept })
+  pub kept-waiting : (old new : KernelValue O) → IsWaiting view name says old new → AreKept view name says Makes old → AreKept view name says Makes new
+  kept-waiting old new waiting kept = subst (AreKept view name says Makes) (sym waiting.is) (record { each = kept.each; lived = kept.lived; kept = kept.kept })
 
   -- and it waits for what comes next
   pub waits-for-next : (old new : KernelValue O) → IsWaiting view name says old new → old.failed ≡ false → open_need new ≡ need_in (next_of new.core.script new.core.history)
@@ -421,10 +390,10 @@ module _ {O : Type 0} (view : O → View) (name : O → List ℕ) (says : O → 
       subst (λ (k : KernelValue O). open_need k ≡ need_in (next_of k.core.script k.core.history)) (sym waiting.is) (rw going (sym waiting.next))
 
   -- the log is the same
-  pub lived-same : (old new : CoreValue) → IsSameLog old new → HaveLived view name says Gives old.script old.history → HaveLived view name says Gives new.script new.history
+  pub lived-same : (old new : CoreValue) → IsSameLog old new → HaveLived view name says Makes old.script old.history → HaveLived view name says Makes new.script new.history
   lived-same old new same lived =
-      subst (λ script. HaveLived view name says Gives script new.history) (sym same.script) (subst (HaveLived view name says Gives old.script) (sym same.history) lived)
+      subst (λ script. HaveLived view name says Makes script new.history) (sym same.script) (subst (HaveLived view name says Makes old.script) (sym same.history) lived)
 
   -- nothing was needed yet
-  pub none-lived : (script : ScriptValue) → HaveLived view name says Gives script []
+  pub none-lived : (script : ScriptValue) → HaveLived view name says Makes script []
   none-lived script = record { filled = tt; asked = tt; lived = All-nil (Lived script []) }

@@ -1,17 +1,6 @@
 -- How many texts a sink has taken of a run.
-use Rattle.std.proofs.Common.{◌≡◌, ◌<◌, ◌≤◌, ◌+◌, ℕ, Bool, true, false, List, length, Option, Some, None, Result, Ok, Err, ap, refl, sym, ◌∙◌, subst, arith, suc}
-use Rattle.std.specs.Result.{IsErrAnd}
-use Rattle.bench_script.specs.Scripts.{ScriptValue}
-use Rattle.bench_history.specs.Limits.{log_limit}
-use Rattle.bench_history.specs.History.{is_over}
-use Rattle.bench_history.specs.Next.{IsLegal}
-use Rattle.bench_kernel.specs.Cores.{CoreValue}
-use Rattle.bench_run.specs.declared.endings.Ending.{Ending}
-use Rattle.bench_run.specs.declared.faults.RunFault.{RunFault}
+use Rattle.bench_run.proofs.Common.{◌≡◌, ◌<◌, ◌≤◌, ◌+◌, ℕ, true, false, List, length, Option, Some, None, Result, Ok, Err, ap, refl, sym, ◌∙◌, subst, arith, suc, IsErrAnd, ScriptValue, log_limit, is_over, IsLegal, CoreValue, RunResult, RunFault, Grows, IsHalted, IsUnwritten, TookMore, TookTexts, Bool}
 use Rattle.bench_run.specs.declared.faults.RunFault.TheVariants as fault
-use Rattle.bench_run.specs.Running.{Grows, IsHalted, IsUnwritten}
-use Rattle.bench_run.specs.Sinks.{TookMore}
-use Rattle.bench_run.specs.Texts.{TookTexts}
 
 -- none was taken
 pub took-none : (count : Option ℕ) → TookMore 0 count count
@@ -33,11 +22,11 @@ took-grown old new first half last grown some more =
 
 -- one more entry, whose text was not taken
 pub took-unwritten :
-    (result : Result Ending RunFault) (why : RunFault) (old new : CoreValue) (script : ScriptValue) (held holds : Option (List ℕ)) (first half last : Option ℕ)
+    (result : Result RunResult RunFault) (why : RunFault) (old new : CoreValue) (script : ScriptValue) (held holds : Option (List ℕ)) (first half last : Option ℕ)
     → IsErrAnd result (λ told. told ≡ why) → Grows old new → new.script ≡ script → IsLegal script old.history → IsLegal new.script new.history
     → IsUnwritten why held holds → TookMore (length old.history) first half → (why ≡ fault.Memory → last ≡ half)
     → TookTexts script first last result
-took-unwritten (Ok ending) why old new script held holds first half last told grown same legal more unwritten some kept = absurd told
+took-unwritten (Ok run_result) why old new script held holds first half last told grown same legal more unwritten some kept = absurd told
 took-unwritten (Err given) why old new script held holds first half last told grown same legal more unwritten some kept =
     go given (subst (λ fault. IsUnwritten fault held holds) (sym told) unwritten) (λ is. kept (sym told ∙ is))
   where
@@ -57,11 +46,11 @@ took-unwritten (Err given) why old new script held holds first half last told gr
 
 -- no more entry
 pub took-halted :
-    (result : Result Ending RunFault) (why : RunFault) (failed : Bool) (old : CoreValue) (script : ScriptValue) (first last : Option ℕ)
+    (result : Result RunResult RunFault) (why : RunFault) (failed : Bool) (old : CoreValue) (script : ScriptValue) (first last : Option ℕ)
     → IsErrAnd result (λ told. told ≡ why) → IsHalted why failed old → (failed ≡ true → length old.history < log_limit script) → IsLegal old.script old.history → old.script ≡ script
     → TookMore (length old.history) first last
     → TookTexts script first last result
-took-halted (Ok ending) why failed old script first last told halted room legal is some = absurd told
+took-halted (Ok run_result) why failed old script first last told halted room legal is some = absurd told
 took-halted (Err given) why failed old script first last told halted room legal is some =
     go given (subst (λ fault. IsHalted fault failed old) (sym told) halted)
   where
@@ -84,11 +73,11 @@ took-halted (Err given) why failed old script first last told halted room legal 
 
 -- the run is over, and its summary was not taken
 pub took-unsummed :
-    (result : Result Ending RunFault) (why : RunFault) (old : CoreValue) (script : ScriptValue) (held holds : Option (List ℕ)) (first half last : Option ℕ)
+    (result : Result RunResult RunFault) (why : RunFault) (old : CoreValue) (script : ScriptValue) (held holds : Option (List ℕ)) (first half last : Option ℕ)
     → IsErrAnd result (λ told. told ≡ why) → is_over old.history ≡ true → IsLegal old.script old.history → old.script ≡ script
     → IsUnwritten why held holds → TookMore (length old.history) first half → (why ≡ fault.Memory → last ≡ half)
     → TookTexts script first last result
-took-unsummed (Ok ending) why old script held holds first half last told over legal is unwritten some kept = absurd told
+took-unsummed (Ok run_result) why old script held holds first half last told over legal is unwritten some kept = absurd told
 took-unsummed (Err given) why old script held holds first half last told over legal is unwritten some kept =
     go given (subst (λ fault. IsUnwritten fault held holds) (sym told) unwritten) (λ same. kept (sym told ∙ same))
   where

@@ -1,16 +1,5 @@
 -- How the words of a run go on.
-use Rattle.std.proofs.Common.{◌≡◌, ◌∙◌, ◌+◌, ℕ, suc, true, List, [], ◌∷◌, length, Option, Some, None, Result, Ok, Err, refl, sym, ap, subst, arith, lit≤}
-use Rattle.std.specs.Result.{IsErrAnd}
-use Rattle.std.specs.List.{cons_option}
-use Rattle.rand_core.specs.Stream.{Stream, next_u64}
-use Rattle.uvm_object.specs.declared.entries.Entry.{Entry}
-use Rattle.bench_kernel.specs.Cores.{CoreValue, IsDrawn, word_in}
-use Rattle.bench_kernel.specs.Steps.{IsSameLog}
-use Rattle.bench_run.specs.Running.{Grows}
-use Rattle.bench_run.specs.declared.endings.Ending.{Ending}
-use Rattle.bench_run.specs.declared.faults.RunFault.{RunFault}
-use Rattle.bench_run.specs.declared.faults.RunFault.TheVariants.{Memory, LogFull, Output, NoTest}
-use Rattle.bench_run.specs.Words.{AreDrawn, HasGiven, HasLost, HasWordsOf, lost_at, may_lose, word_made, stream_after, words_drawn, log_words}
+use Rattle.bench_run.proofs.Common.{◌≡◌, ◌∙◌, ◌+◌, ℕ, suc, true, List, [], ◌∷◌, length, Option, Some, None, Result, Ok, Err, refl, sym, ap, subst, arith, lit≤, IsErrAnd, cons_option, Stream, next_u64, Entry, CoreValue, IsDrawn, word_in, IsSameLog, Grows, RunResult, RunFault, Memory, LogFull, Output, NoTest, AreDrawn, HasGiven, HasLost, HasWordsOf, lost_at, may_lose, word_made, stream_after, words_drawn, log_words}
 
 module _ {Words : Type 0} (stream : Words → Stream) where
   -- nothing was drawn
@@ -74,8 +63,8 @@ module _ {Words : Type 0} (stream : Words → Stream) where
   given-lost NoTest history first half last were same = given-all 0 history first last (subst (λ w. AreDrawn stream history first w) (sym same) were)
 
 -- the fault is that of the run
-pub given-broken : (result : Result Ending RunFault) (why : RunFault) (old new : CoreValue) (first last : Stream) → IsErrAnd result (λ told. told ≡ why) → IsSameLog old new → HasGiven (lost_at why) old.history first last → HasGiven (may_lose result) new.history first last
-given-broken (Ok ending) why old new first last told same given = absurd told
+pub given-broken : (result : Result RunResult RunFault) (why : RunFault) (old new : CoreValue) (first last : Stream) → IsErrAnd result (λ told. told ≡ why) → IsSameLog old new → HasGiven (lost_at why) old.history first last → HasGiven (may_lose result) new.history first last
+given-broken (Ok run_result) why old new first last told same given = absurd told
 given-broken (Err fault) why old new first last told same given =
     subst (λ (history : List Entry). HasGiven (lost_at fault) history first last) (sym same.history) (subst (λ (f : RunFault). HasGiven (lost_at f) old.history first last) (sym told) given)
 

@@ -1,5 +1,5 @@
 pub mod Faults
-pub mod Endings
+pub mod RunResults
 pub mod Words
 pub mod Lives
 pub mod Running

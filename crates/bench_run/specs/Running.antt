@@ -18,11 +18,11 @@ use Rattle.bench_kernel.specs.Cores.{CoreValue, core_after, last_text}
 use Rattle.bench_kernel.specs.Kernels.{KernelValue}
 use Rattle.bench_run.specs.Words.{HasGiven, HasWordsOf, may_lose}
 use Rattle.bench_run.specs.Lives.{HaveLived}
-use Rattle.bench_run.specs.declared.endings.Ending.{Ending}
+use Rattle.bench_run.specs.declared.run_results.RunResult.{RunResult}
 use Rattle.bench_run.specs.declared.faults.RunFault.{RunFault}
 use Rattle.bench_run.specs.declared.faults.RunFault.TheVariants.{Memory, LogFull, Output, NoTest}
 
--- the texts of the entries of a log, in order: the line of each, where it is asked for, and that of its report, where it is displayed
+-- the texts of the entries of a log, in order: the line of each if tracing is on, and the line of its report if that is displayed
 abbrev pub transcript : Bool → ScriptValue → List Entry → List ℕ
 transcript trace script [] = []
 transcript trace script (entry ∷ before) = transcript trace script before ++ last_text trace script (entry ∷ before)
@@ -35,23 +35,23 @@ log_counts script history = report_counts (report_commands script history)
 abbrev pub summary_of : ScriptValue → List Entry → List ℕ
 summary_of script history = summary_text (quit_limit (report_commands script history)) (log_counts script history)
 
--- a legal log of a script, whose text was written, and then more
+-- the log is legal, and its text was written, followed by `more`
 pub record WroteLog (script : ScriptValue) (trace : Bool) (old new : Option (List ℕ)) (history : List Entry) (more : List ℕ) : Type 0 where
   pub legal : IsLegal script history
   pub wrote : Appends old new (transcript trace script history ++ more)
 
--- how a run is over: why, and how many reports were issued as ERROR and as FATAL
-pub record IsEnding (ending : Ending) (script : ScriptValue) (history : List Entry) : Type 0 where
-  pub reason : newest history ≡ Some (Over ending.reason)
-  pub errors : ending.errors ≡ (log_counts script history).error
-  pub fatals : ending.fatals ≡ (log_counts script history).fatal
+-- the result of a run: why it ended, and how many reports were issued as ERROR and as FATAL
+pub record IsRunResult (run_result : RunResult) (script : ScriptValue) (history : List Entry) : Type 0 where
+  pub reason : newest history ≡ Some (Over run_result.reason)
+  pub errors : run_result.errors ≡ (log_counts script history).error
+  pub fatals : run_result.fatals ≡ (log_counts script history).fatal
 
--- the log that is left is that of a run that is over, and its summary was written behind its text
-abbrev pub RanTo : Ending → ScriptValue → Bool → List Entry → Option (List ℕ) → Option (List ℕ) → Type 0
-RanTo ending script trace history old new = IsEnding ending script history × WroteLog script trace old new history (summary_of script history)
+-- the run ended with this result and this log, and its summary was written after the text of the log
+abbrev pub RanTo : RunResult → ScriptValue → Bool → List Entry → Option (List ℕ) → Option (List ℕ) → Type 0
+RanTo run_result script trace history old new = IsRunResult run_result script history × WroteLog script trace old new history (summary_of script history)
 
--- where memory was refused: the text of the log that is left was written, or of all of it but its newest entry, which then has one; what
--- was written is not full, unless the run is over
+-- what was written when memory ran out: the text of the log, or all but that of its newest entry, which then is not empty. The log whose
+-- text was written is not full, unless the run has ended
 pub record WroteSoFar (script : ScriptValue) (trace : Bool) (history : List Entry) (old new : Option (List ℕ)) : Type 0 where
   pub unwritten : List Entry
   pub written : List Entry
@@ -61,41 +61,42 @@ pub record WroteSoFar (script : ScriptValue) (trace : Bool) (history : List Entr
   pub room : is_over written ≡ false → length written < log_limit script
   pub wrote : WroteLog script trace old new written []
 
--- where a run broke off, by the log that is left: so far as memory was there; with a full log that is not over; or where a write failed. Without a
--- test there was none
+-- what an error leaves, by the log: `Memory`, `WroteSoFar`; `LogFull`, the text of a full log whose run has not ended; `Output`, nothing is
+-- known; `NoTest`, an empty log and nothing written
 abbrev pub BrokeOffRun : RunFault → ScriptValue → Bool → List Entry → Option (List ℕ) → Option (List ℕ) → Type 0
 BrokeOffRun Memory script trace history old new = WroteSoFar script trace history old new
 BrokeOffRun LogFull script trace history old new = (log_limit script ≤ length history) × (is_over history ≡ false) × WroteLog script trace old new history []
 BrokeOffRun Output script trace history old new = Unit {0}
 BrokeOffRun NoTest script trace history old new = (script.test ≡ None) × (history ≡ []) × Keeps old new
 
--- what a run of a script comes to, by the log that it leaves
-abbrev pub LeavesRun : ScriptValue → Bool → List Entry → Option (List ℕ) → Option (List ℕ) → Result Ending RunFault → Type 0
-LeavesRun script trace history old new (Ok ending) = RanTo ending script trace history old new
+-- what a run writes, by its result and the log that it leaves
+abbrev pub LeavesRun : ScriptValue → Bool → List Entry → Option (List ℕ) → Option (List ℕ) → Result RunResult RunFault → Type 0
+LeavesRun script trace history old new (Ok run_result) = RanTo run_result script trace history old new
 LeavesRun script trace history old new (Err fault) = BrokeOffRun fault script trace history old new
 
-module _ {O : Type 0} (view : O → View) (name : O → List ℕ) (says : O → Says) (Gives : List ℕ → Option O → Type 0) where
-  -- the same where the log is gone: it is legal, its words are those of a generator, which has given no others but what may be lost, and its
-  -- objects those that are given for the names of their types
-  pub record IsRun (stream left : Stream) (script : ScriptValue) (trace : Bool) (old new : Option (List ℕ)) (result : Result Ending RunFault) : Type 0 where
+module _ {O : Type 0} (view : O → View) (name : O → List ℕ) (says : O → Says) (Makes : List ℕ → Option O → Type 0) where
+  -- a run whose log is no longer available: there is a legal log that it left. The random numbers of the log are those of the generator,
+  -- which consumed no others except one that may be lost. The objects are those that may be given for their types
+  pub record IsRun (stream left : Stream) (script : ScriptValue) (trace : Bool) (old new : Option (List ℕ)) (result : Result RunResult RunFault) : Type 0 where
     pub history : List Entry
     pub legal : IsLegal script history
     pub leaves : LeavesRun script trace history old new result
     pub words : HasWordsOf stream history
     pub given : HasGiven (may_lose result) history stream left
-    pub objects : HaveLived view name says Gives script history
+    pub objects : HaveLived view name says Makes script history
 
--- at most, sequences that have ended were told, and their objects given back: the log stays, and a kernel goes on that did
+-- only ended sequences were reported and their objects returned; the log is unchanged, and the kernel has failed exactly if it had before
 pub record HasTold {O : Type 0} (old new : KernelValue O) : Type 0 where
   pub core : new.core ≡ record old.core { leaving = new.core.leaving }
   pub failed : new.failed ≡ old.failed
 
--- one more entry
+-- the core has one more entry
 pub record Grows (old new : CoreValue) : Type 0 where
   pub entry : Entry
   pub is : new ≡ core_after entry old
 
--- why a kernel that has not failed made no entry: out of memory where the log has room, or a full log that is not over
+-- the error of a kernel that had not failed and added no entry: `Memory` if the log is not full; `LogFull` if it is full and the run has
+-- not ended
 abbrev pub IsHalted : RunFault → Bool → CoreValue → Type 0
 IsHalted Memory failed core = failed ≡ false → length core.history < log_limit core.script
 IsHalted LogFull failed core = (log_limit core.script ≤ length core.history) × (is_over core.history ≡ false)
@@ -107,7 +108,7 @@ pub record IsDeclined {O : Type 0} (old new : KernelValue O) : Type 0 where
   pub becomes : IfSome (declined_in (next_of old.core.script old.core.history)) (λ entry. new ≡ record old { core = core_after entry old.core })
   pub one : IsSome (declined_in (next_of old.core.script old.core.history))
 
--- why a line was not written, and that nothing was where memory was refused
+-- the error of a write: `Memory`, with nothing written, or `Output`
 abbrev pub IsUnwritten : RunFault → Option (List ℕ) → Option (List ℕ) → Type 0
 IsUnwritten Memory old new = Keeps old new
 IsUnwritten LogFull old new = ⊥

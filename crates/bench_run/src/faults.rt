@@ -1,18 +1,18 @@
-//! Why a run breaks off.
+//! The errors of a run.
 
 use std::error::Error;
 use std::fmt;
 
-/// Why there is no run, or it breaks off before it is over.
+/// The error of a run that does not begin, or stops before its end.
 #[derive(Clone, Copy, Debug, PartialEq, Eq)]
 pub enum RunFault {
-    /// Memory was refused.
+    /// Out of memory.
     Memory,
-    /// The log has as many entries as it may have, and one more would be next.
+    /// A log with as many entries as it may have, when another entry would come next.
     LogFull,
-    /// A line could not be written.
+    /// A text that could not be written.
     Output,
-    /// The script has no test.
+    /// A script without a test.
     NoTest,
 }
 

@@ -1,5 +1,4 @@
-//! What holds of all runs, in words of the definitions. The functions do nothing that shows; their contracts are the laws
-//! (`specs/Laws.antt`).
+//! Laws of all runs. These functions have no run-time effect: their contracts are the laws (`specs/Laws.antt`).
 
 ghost use Rattle.bench_run.specs.Laws.{EndsAreDetermined, RunsAreFunctions};
 
@@ -7,8 +6,8 @@ use bench_history::laws as history;
 use bench_kernel::laws as custody;
 use uvm_object::UvmObject;
 
-/// Where each object is a function of its calls, the log of a run that has ended is determined by the script, the words, and what is given
-/// for the name of each type.
+/// Law: if each object is a function of its calls, the log of a run that has ended or has a full log is determined. It follows from the
+/// script, the random numbers, and the object that is given for each type name.
 pub fn runs_are_functions<O: UvmObject>()
     ensures { RunsAreFunctions O.view O.name O.says }
 {
@@ -16,8 +15,9 @@ pub fn runs_are_functions<O: UvmObject>()
     custody::nobody_is_made_twice();
 }
 
-/// Where each object is a function of its calls, how a run ends and all that it writes are determined by the script, the words, what is given
-/// for the name of each type, and whether a trace is asked for; unless memory was refused or a write failed.
+/// Law: if each object is a function of its calls, the result of a run and all that it writes are determined. They follow from the script,
+/// the random numbers, the object that is given for each type name, and whether tracing is on. The law covers runs that end or stop with
+/// `LogFull`, on sinks whose contents are known.
 pub fn ends_are_determined<O: UvmObject>()
     ensures { EndsAreDetermined O.view O.name O.says }
 {

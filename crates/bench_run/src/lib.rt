@@ -1,7 +1,7 @@
-//! A whole run of a script over objects of any kind, whose log is written as it grows.
+//! Runs a script to its end over objects of any type, and writes the log as it grows.
 //!
-//! A user writes an object, which tells its type name and answers calls, and a closure that makes it; the tests run one of
-//! their own so. With a script, a generator `words` and a writer `out` at hand:
+//! A user writes an object, which returns its type name and answers calls, and a closure that makes it; the tests do so with an object of
+//! their own. With a script, a generator `words` and a writer `out`:
 //!
 //! ```text
 //! let make = |type_name: &Name| -> Result<Option<Asker>, AllocError> { Ok(Asker::of_type(type_name)) };
@@ -9,17 +9,17 @@
 //!     Ok(ending) if ending.is_clean() => ..,
 //! ```
 //!
-//! Objects of several types are the variants of an enum that is an object itself, or boxes.
+//! For objects of several types, `make` returns an enum that implements `UvmObject`, or boxes (`Box<dyn UvmObject>`).
 #![tactic(auto)]
 
-mod endings;
 mod faults;
 pub mod laws;
+mod run_results;
 mod running;
 mod sinks;
 
 pub use bench_kernel::{Core, CoreFault, Kernel, Misfit, Step, Unfit};
-pub use endings::{Ending, empty_kernel, exit_status};
 pub use faults::RunFault;
+pub use run_results::{RunResult, empty_kernel, exit_status};
 pub use running::{run_kernel, run_script};
 pub use sinks::Sink;

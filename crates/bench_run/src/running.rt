@@ -18,10 +18,10 @@ ghost use Rattle.bench_run.specs.Words.{HasGiven, HasLost, HasWordsOf, may_lose,
 ghost use Rattle.bench_run.specs.Lives.{AreKept, HaveLived, MayGive};
 ghost use Rattle.bench_run.specs.Sinks.{TookMore};
 ghost use Rattle.bench_run.specs.Texts.{TookTexts};
-ghost use Rattle.bench_run.specs.Running.{Grows, HasTold, IsEnding, IsDeclined, IsHalted, IsRun, IsUnwritten, LeavesRun, log_counts, summary_of};
+ghost use Rattle.bench_run.specs.Running.{Grows, HasTold, IsRunResult, IsDeclined, IsHalted, IsRun, IsUnwritten, LeavesRun, log_counts, summary_of};
 
-use crate::endings::{Ending, empty_kernel};
 use crate::faults::RunFault;
+use crate::run_results::{RunResult, empty_kernel};
 use crate::sinks::Sink;
 use bench_history::laws;
 use bench_kernel::{CoreFault, Kernel, Misfit, Step, Unfit, laws as custody};
@@ -58,7 +58,7 @@ pub fn run_script<
     trace: bool,
     make: F,
     out: &mut S,
-) -> Result<Ending, RunFault>
+) -> Result<RunResult, RunFault>
     requires { F.IsAlwaysCallable make }
     ensures run { IsRun O.view O.name O.says (MayGive F.Fn make) (R.stream words.old) (R.stream words.new) script trace (S.contents out.old) (S.contents out.new) result }
     ensures texts { TookTexts script (S.taken out.old) (S.taken out.new) result }
@@ -92,7 +92,7 @@ pub fn run_kernel<O: UvmObject, R: Rng, F: Fn(&Name) -> Result<Option<O>, AllocE
     trace: bool,
     make: &F,
     out: &mut S,
-) -> Result<Ending, RunFault>
+) -> Result<RunResult, RunFault>
     requires callable { F.IsAlwaysCallable make.now }
     requires good { kernel.old.core.health ≡ Good }
     requires going { kernel.old.failed ≡ false }
@@ -122,7 +122,7 @@ fn run_to_end<O: UvmObject, R: Rng, F: Fn(&Name) -> Result<Option<O>, AllocError
     make: &F,
     text: &mut Vec<u8>,
     out: &mut S,
-) -> Result<Ending, RunFault>
+) -> Result<RunResult, RunFault>
     requires callable { F.IsAlwaysCallable make.now }
     requires good { kernel.old.core.health ≡ Good }
     requires going { kernel.old.failed ≡ false }
@@ -142,7 +142,7 @@ fn run_to_end<O: UvmObject, R: Rng, F: Fn(&Name) -> Result<Option<O>, AllocError
         write_last(kernel, trace, text, out)?;
     }
     write_summary(kernel, text, out)?;
-    Ok(ending_of(kernel))
+    Ok(run_result_of(kernel))
 }
 
 // Makes the next entry and returns true, or returns false if the run has ended. Before that, it drops the objects of the sequences that
@@ -182,13 +182,13 @@ fn make_entry<O: UvmObject, R: Rng, F: Fn(&Name) -> Result<Option<O>, AllocError
 }
 
 // Returns how the run ended.
-fn ending_of<O: UvmObject>(kernel: &Kernel<O>) -> Ending
+fn run_result_of<O: UvmObject>(kernel: &Kernel<O>) -> RunResult
     requires over { is_over kernel.now.core.history ≡ true }
     requires sound { is_sound kernel.now.core.health ≡ true }
-    ensures { IsEnding result kernel.now.core.script kernel.now.core.history }
+    ensures { IsRunResult result kernel.now.core.script kernel.now.core.history }
 {
     let reports = reports_of(kernel);
-    Ending {
+    RunResult {
         reason: why_over(kernel),
         errors: reports.count_of(Severity::Error),
         fatals: reports.count_of(Severity::Fatal),

@@ -1,4 +1,4 @@
--- The script that a TOML tree stands for, or its first fault.
+-- The script that a TOML document gives, or its first error.
 use Rattle.std.specs.Prelude.{◌≤◌, IsTrue, ℕ, ℤ, false, pos, negsuc, ◌==◌, List, [], ◌∷◌, ◌++◌, Option, Some, None, Result, Ok, Err, ok_or, slice_get, codes, nat_lt, not, length, if◌then◌else◌}
 use Rattle.std.specs.Str.{is_utf8}
 use Rattle.toml.specs.Parse.{parse_document}
@@ -7,24 +7,24 @@ use Rattle.uvm_factory.specs.declared.types.Kind.{Kind}
 use Rattle.uvm_factory.specs.declared.types.Kind.TheVariants.{Component, Sequence}
 use Rattle.uvm_factory.specs.Faults.{Types, type_named}
 use Rattle.bench_script.specs.declared.heads.Head.{Head}
-use Rattle.script_values.specs.declared.faults.ScriptFault.{ScriptFault}
-use Rattle.script_values.specs.declared.faults.ScriptFault.TheVariants.{NotText, NotToml, WrongKind, UnknownType, Version, TooLong}
-use Rattle.script_values.specs.Reading.{and_then}
-use Rattle.script_values.specs.Values.{integer_in, number_in, name_in, flag_in}
+use Rattle.script_tables.specs.declared.faults.ScriptFault.{ScriptFault}
+use Rattle.script_tables.specs.declared.faults.ScriptFault.TheVariants.{NotText, NotToml, WrongKind, UnknownType, Version, TooLong}
+use Rattle.script_tables.specs.Reading.{and_then}
+use Rattle.script_tables.specs.Values.{integer_in, number_in, name_in, flag_in}
 use Rattle.bench_script.specs.Limits.{most_time, most_quit_limit, most_script_bytes}
-use Rattle.script_values.specs.Keys.{only_keys, required, optional, some_of}
+use Rattle.script_tables.specs.Keys.{only_keys, required, optional, some_of}
 use Rattle.bench_script.specs.Scripts.{ScriptValue}
 use Rattle.script_tables.specs.Tables.{types_in, overrides_in, settings_in, probes_in}
 use Rattle.script_tables.specs.declared.drains.Drain.{Drain}
 use Rattle.script_tables.specs.Drains.{drains_in}
 use Rattle.script_tables.specs.ReportTables.{verbosities_in, actions_in, severities_in}
 
--- the version is 1 or 2
+-- the version if it is 1 or 2, otherwise `Version`
 abbrev pub known_version : ℤ → Result ℕ ScriptFault
 known_version (pos n) = if n == 1 then Ok 1 else if n == 2 then Ok 2 else Err Version
 known_version (negsuc n) = Err Version
 
--- the version that a value gives, 1 or 2; otherwise a fault
+-- the version that a value gives; `WrongKind` if the value is not an integer, `Version` if it is neither 1 nor 2
 abbrev pub version_in : Data → Result ℕ ScriptFault
 version_in value = and_then (integer_in value) known_version
 
@@ -32,22 +32,24 @@ version_in value = and_then (integer_in value) known_version
 abbrev pub first_keys : List (List ℕ)
 first_keys = codes "version" ∷ codes "test" ∷ codes "time_limit" ∷ codes "quit_limit" ∷ codes "runtime" ∷ codes "type" ∷ codes "override" ∷ codes "set" ∷ codes "verbosity" ∷ codes "action" ∷ codes "severity" ∷ codes "probe" ∷ []
 
--- the keys of a script: one of version 2 has one more
+-- the keys of a script of a version; version 2 has the additional key `drain`
 unfoldable pub root_keys : ℕ → List (List ℕ)
 root_keys version = first_keys ++ (if version == 2 then codes "drain" ∷ [] else [])
 
--- the test is a component
+-- the place of the test, if its type is a component type; `UnknownType` if there is no type, `WrongKind` if it is a sequence type
 abbrev pub component_at : ℕ → Option (List ℕ × Kind) → Result (Option ℕ) ScriptFault
 component_at place None = Err UnknownType
 component_at place (Some (name, Component)) = Ok (Some place)
 component_at place (Some (name, Sequence)) = Err WrongKind
 
--- the type that the test names
+-- the place of the type that the test names, none if there is no test; `UnknownType` if no type has the name, `WrongKind` if the
+-- type is a sequence type
 abbrev pub test_among : Types → Option (List ℕ) → Result (Option ℕ) ScriptFault
 test_among types None = Ok None
 test_among types (Some name) = and_then (ok_or (type_named types name) UnknownType) (λ place. component_at place (slice_get types place))
 
--- what stands before the arrays, in a tree that has some other keys beside the script's: the version, the test's name, the two limits, and whether the run-time phases run
+-- the values that precede the arrays: the version, the name of the test, the two limits, and whether the run-time phases run. The
+-- tree can have the keys in `others` in addition to those of a script.
 abbrev pub head_in : List (List ℕ) → Members → Result Head ScriptFault
 head_in others root =
     and_then (required (codes "version") version_in root) (λ version.
@@ -58,11 +60,11 @@ head_in others root =
     and_then (optional (codes "runtime") false flag_in root) (λ runtime.
     Ok (record { version = version; test = test; time_limit = time_limit; quit_limit = quit_limit; runtime = runtime })))))))
 
--- the drain times, which one of version 2 may give
+-- the drain times, which only a script of version 2 can give
 abbrev pub drains_given : ℕ → Members → Result (List Drain) ScriptFault
 drains_given version root = if version == 2 then drains_in root else Ok []
 
--- the script that a tree stands for which has some other keys beside, or its first fault
+-- the script that a tree gives, or its first error; the tree can have the keys in `others` in addition to those of a script
 unfoldable pub script_beside : List (List ℕ) → Members → Result ScriptValue ScriptFault
 script_beside others root =
     and_then (head_in others root) (λ head.
@@ -91,22 +93,22 @@ script_beside others root =
       drains = drains;
     })))))))))))
 
--- the bytes are a text, and not too many
+-- the bytes are UTF-8, and are not more than a script can have
 abbrev pub IsReadable : List ℕ → Type 0
 IsReadable bytes = (length bytes ≤ most_script_bytes) × IsTrue (is_utf8 bytes)
 
--- the tree of a document that `toml` took, or refused
+-- the tree of a document that `toml` accepts, or `NotToml` if it rejects the text
 abbrev pub tree_in : Option Members → Result Members ScriptFault
 tree_in None = Err NotToml
 tree_in (Some root) = Ok root
 
--- the tree that the bytes of a file stand for, by the grammar of `toml`
+-- the tree that the bytes of a file give, by the grammar of `toml`; `TooLong`, then `NotText`, then `NotToml` if they give none
 abbrev pub tree_of_bytes : List ℕ → Result Members ScriptFault
 tree_of_bytes bytes =
     if nat_lt most_script_bytes (length bytes) then Err TooLong
     else if not (is_utf8 bytes) then Err NotText
     else tree_in (parse_document bytes)
 
--- the script that the bytes of a file stand for
+-- the script that the bytes of a file give, or the first error
 abbrev pub script_of_bytes : List ℕ → Result ScriptValue ScriptFault
 script_of_bytes bytes = and_then (tree_of_bytes bytes) (script_beside [])

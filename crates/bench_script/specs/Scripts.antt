@@ -1,4 +1,4 @@
--- What contracts see of a script.
+-- The values of a script, as contracts see them.
 use Rattle.std.specs.Prelude.{ℕ, Bool, List, Option}
 use Rattle.uvm_factory.specs.declared.overrides.Override.{Override}
 use Rattle.uvm_factory.specs.Faults.{Types}
@@ -9,8 +9,8 @@ use Rattle.script_tables.specs.declared.report_settings.VerbositySetting.{Verbos
 use Rattle.script_tables.specs.declared.report_settings.ActionSetting.{ActionSetting}
 use Rattle.script_tables.specs.declared.report_settings.SeverityChange.{SeverityChange}
 
--- the version; the test, a type's place, where there is one; the limits of a run; whether the run-time phases go beside run; the types in order, what replaces them, what
--- is set, also for reports, and the questions to the factory
+-- the values of a script: its version; its test, as the place of a type; its time limit in ticks and its quit limit; whether the
+-- run-time phases run in parallel with the run phase; and the rows of its arrays, in order
 pub record ScriptValue : Type 0 where
   pub version : ℕ
   pub test : Option ℕ

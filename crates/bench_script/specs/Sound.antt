@@ -1,4 +1,4 @@
--- What holds of every script.
+-- Properties of every script.
 use Rattle.std.specs.Prelude.{◌≡◌, ℕ, ◌≤◌, [], length, Option, Some, None, All, slice_get, option_map}
 use Rattle.uvm_factory.specs.declared.types.Kind.TheVariants.{Component}
 use Rattle.uvm_factory.specs.Faults.{Types}
@@ -8,12 +8,12 @@ use Rattle.script_tables.specs.Rows.{CanRegister, CanOverride, CanProbe, HasLeve
 use Rattle.bench_script.specs.Limits.{most_time, most_quit_limit}
 use Rattle.bench_script.specs.Scripts.{ScriptValue}
 
--- the test is a component
+-- the type of the test, if there is a test, is a component type
 abbrev pub IsComponentAt : Types → Option ℕ → Type 0
 IsComponentAt types None = Unit {0}
 IsComponentAt types (Some place) = option_map (λ t. t.1) (slice_get types place) ≡ Some Component
 
--- what holds of every script: its test is a component, its limits are kept, and its rows are valid
+-- the properties of every script: its test is a component type, its limits are in range, and its rows are valid
 pub record IsSound (script : ScriptValue) : Type 0 where
   pub test : IsComponentAt script.types script.test
   pub time_limit : script.time_limit ≤ most_time

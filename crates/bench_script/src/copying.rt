@@ -1,21 +1,20 @@
 //! Copies of a script, and a script with another test.
 
 ghost use Rattle.std.specs.Prelude.{◌≡◌, IfOk, IfErr};
-ghost use Rattle.script_values.specs.Reading.{IsFaultOf};
+ghost use Rattle.script_tables.specs.Reading.{IsFaultOf};
 ghost use Rattle.bench_script.specs.Documents.{test_among};
 ghost use Rattle.bench_script.specs.Sound.{IsComponentAt};
 
 use crate::scripts::Script;
 use script_tables::{
-    ActionSetting, Drain, Probe, Setting, SeverityChange, VerbositySetting, type_among,
+    ActionSetting, Drain, Probe, ScriptFault, Setting, SeverityChange, VerbositySetting, type_among,
 };
-use script_values::ScriptFault;
 use std::alloc::{AllocError, Global};
 use uvm_factory::{Kind, Override, TypeId};
 use uvm_glob::Name;
 
 impl Script {
-    /// An equal script. Errors: out of memory.
+    /// Returns an equal script. Errors: out of memory.
     pub fn copy(&self) -> Result<Script, AllocError>
         ensures { IfOk result (λ script. script ≡ self.now) }
     {
@@ -37,8 +36,8 @@ impl Script {
         })
     }
 
-    /// The script with its test replaced by the type of this name. `UnknownType`, where no type of the script has the
-    /// name; `WrongKind`, where that type is a sequence type; `Memory` last, where memory is refused.
+    /// Returns a copy of the script whose test is the type with this name. Errors: `UnknownType` if no type of the script has the
+    /// name; `WrongKind` if that type is a sequence type; out of memory (`Memory`).
     pub fn with_test(&self, name: &Name) -> Result<Script, ScriptFault>
         ensures ok { IfOk result (λ script.
             (test_among self.now.types (Some name.now) ≡ Ok script.test)
@@ -54,7 +53,7 @@ impl Script {
         }
     }
 
-    // The script with another test.
+    // Returns a copy of the script with another test. Errors: out of memory.
     fn with_component(&self, test: TypeId) -> Result<Script, AllocError>
         requires { IsComponentAt self.now.types (Some test) }
         ensures { IfOk result (λ script. script ≡ record self.now { test = Some test }) }

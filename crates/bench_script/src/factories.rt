@@ -13,8 +13,8 @@ use std::alloc::{AllocError, Global};
 use uvm_factory::{Factory, FactoryFault, Kind, Override, laws};
 use uvm_glob::Name;
 
-/// Makes the factory with the types and the overrides of a script (IEEE 1800.2-2020, Clause 8). Errors: out of memory. (It is no method:
-/// each library that keeps a script would be written out with all that a factory keeps.)
+/// Creates the factory with the types and the overrides of a script (IEEE 1800.2-2020, Clause 8). Errors: out of memory. (It is
+/// not a method of `Script`: otherwise each library that keeps a script would be compiled with all that a factory keeps.)
 pub fn factory_of(alloc: Global, script: &Script) -> Result<Factory, AllocError>
     ensures { IfOk result (IsFactoryOf script.now) }
 {
@@ -29,7 +29,7 @@ pub fn factory_of(alloc: Global, script: &Script) -> Result<Factory, AllocError>
     Ok(factory)
 }
 
-// Registers types that can be registered one after another.
+// Registers types, each of which must be one that can be registered after those before it. Errors: out of memory.
 fn register_all(factory: &mut Factory, types: &[(Name, Kind)]) -> Result<(), AllocError>
     requires none { types_of factory.old ≡ [] }
     requires sound { CanRegister [] types.now }
@@ -45,7 +45,7 @@ fn register_all(factory: &mut Factory, types: &[(Name, Kind)]) -> Result<(), All
     Ok(())
 }
 
-// Applies an override between types of one kind.
+// Adds an override between types of one kind to the factory. Errors: out of memory.
 fn apply(factory: &mut Factory, given: &Override) -> Result<(), AllocError>
     requires { CanOverride (types_of factory.old) given.now }
     ensures types { OnOk result (types_of factory.new ≡ types_of factory.old) }
@@ -70,7 +70,7 @@ fn apply(factory: &mut Factory, given: &Override) -> Result<(), AllocError>
     }
 }
 
-// The error of a call of the factory that only memory can refuse.
+// Returns the error of a call of the factory that can fail only if it is out of memory.
 fn want_of_memory(_fault: FactoryFault) -> AllocError
     requires { refusal _fault ≡ None }
 {

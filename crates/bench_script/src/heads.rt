@@ -1,17 +1,17 @@
-//! What stands before the arrays of a script.
+//! The values of a script that precede its arrays.
 
 ghost use Rattle.std.specs.Prelude.{◌≡◌, ◌≤◌, IfOk, map};
 ghost use Rattle.toml.specs.View.{view, table_view};
 ghost use Rattle.bench_script.specs.Limits.{most_time, most_quit_limit};
 ghost use Rattle.bench_script.specs.Documents.{version_in, head_in, root_keys};
 
-use script_values::ScriptFault;
-use script_values::keys::{member, only_keys, required};
-use script_values::values::{flag, integer, name, number};
+use script_tables::ScriptFault;
+use script_tables::keys::{member, only_keys, required};
+use script_tables::values::{flag, integer, name, number};
 use toml::{Table, Value};
 use uvm_glob::Name;
 
-/// The greatest time in ticks.
+/// The maximum time in ticks.
 const MAX_TIME: u64 = 1_000_000_000_000_000_000;
 
 const MAX_QUIT_LIMIT: u64 = u16::MAX as u64;
@@ -32,7 +32,7 @@ const ROOT_KEYS: [&str; 12] = [
     "probe",
 ];
 
-// Those of a script of version 2.
+// The keys of a script of version 2.
 const LATER_ROOT_KEYS: [&str; 13] = [
     "version",
     "test",
@@ -49,7 +49,7 @@ const LATER_ROOT_KEYS: [&str; 13] = [
     "drain",
 ];
 
-/// The version, the test, the limits, and whether the run-time phases run.
+/// The version of a script, the name of its test, its two limits, and whether the run-time phases run.
 #[derive(Drop)]
 pub(crate) struct Head {
     pub(crate) version: u64,
@@ -101,7 +101,7 @@ fn version(value: &Value) -> Result<u64, ScriptFault>
     }
 }
 
-// The keys of a script of a version.
+// Returns the keys of a script of a version.
 #[tactic(auto, unfolding(crate::specs::Documents::root_keys))]
 fn root_keys(version: u64) -> &'static [&'static str]
     ensures { map (λ key. key.now) result.now ≡ root_keys version }

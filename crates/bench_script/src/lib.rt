@@ -1,4 +1,4 @@
-//! The scripts of the bench: TOML documents that name types, overrides, settings, what is set for reports, and probes.
+//! Scripts: TOML documents that give the types, overrides, settings, report settings, drain times and probes of a testbench.
 #![tactic(auto)]
 
 mod copying;
@@ -9,6 +9,7 @@ mod scripts;
 
 pub use factories::factory_of;
 pub use reading::{read, read_document, read_table};
-pub use script_tables::{ActionSetting, Probe, Setting, SeverityChange, VerbositySetting};
-pub use script_values::ScriptFault;
+pub use script_tables::{
+    ActionSetting, Probe, ScriptFault, Setting, SeverityChange, VerbositySetting,
+};
 pub use scripts::Script;

@@ -1,32 +1,31 @@
-//! Reads a script.
+//! The functions that read a script.
 
 ghost use Rattle.std.specs.Prelude.{◌≡◌, ◌≢◌, Ok, Err, IfOk, MatchResult, All, map};
 ghost use Rattle.script_tables.specs.Drains.{CanDrain};
 ghost use Rattle.toml.specs.View.{table_view};
 ghost use Rattle.toml.specs.Parse.{parse_document};
-ghost use Rattle.script_values.specs.Reading.{IsReading};
+ghost use Rattle.script_tables.specs.Reading.{IsReading};
 ghost use Rattle.bench_script.specs.Sound.{IsComponentAt};
 ghost use Rattle.bench_script.specs.Documents.{IsReadable, drains_given, script_beside, script_of_bytes, test_among, tree_in, tree_of_bytes};
 
 use crate::heads::read_head;
 use crate::scripts::Script;
 use script_tables::{
-    Drain, TypeTable, read_actions, read_drains, read_overrides, read_probes, read_settings,
-    read_severities, read_types, read_verbosities,
+    Drain, ScriptFault, TypeTable, read_actions, read_drains, read_overrides, read_probes,
+    read_settings, read_severities, read_types, read_verbosities,
 };
-use script_values::ScriptFault;
 use std::alloc::Global;
 use std::str;
 use toml::Table;
 use uvm_factory::{Kind, TypeId};
 use uvm_glob::Name;
 
-/// The most bytes of a script.
+/// The maximum number of bytes of a script.
 const MAX_LEN: usize = 1_048_576;
 
-/// Reads a script. The fault is the first of `TooLong`, `NotText`, `NotToml` and those of the document's keys in their
-/// order; `Memory` is answered where a growth was refused, and nothing grows before the bytes are known to be a text that is
-/// not too long.
+/// Reads a script. Errors: `TooLong` if there are more than 1,048,576 bytes; `NotText` if the bytes are not UTF-8; `NotToml` if
+/// the text is not TOML; then the errors of `read_table`; out of memory (`Memory`). Nothing is allocated before the bytes are
+/// known to be UTF-8 and not too many.
 pub fn read(alloc: Global, bytes: &[u8]) -> Result<Script, ScriptFault>
     ensures reading { IsReading (script_of_bytes bytes.now) result }
     ensures readable { MatchResult result (λ _. IsReadable bytes.now) (λ fault. fault ≡ ScriptFault.Memory → IsReadable bytes.now) }
@@ -35,9 +34,9 @@ pub fn read(alloc: Global, bytes: &[u8]) -> Result<Script, ScriptFault>
     read_table(alloc, &root, &[])
 }
 
-/// Reads a document, of which a script may be a part. The fault is `TooLong` past 1,048,576 bytes, `NotText` for bytes that are not
-/// UTF-8, and `NotToml` where `toml` refuses the text; `Memory` is answered where a growth was refused, and nothing grows before
-/// the bytes are known to be a text that is not too long.
+/// Reads a document, of which a script can be a part. Errors: `TooLong` if there are more than 1,048,576 bytes; `NotText` if the
+/// bytes are not UTF-8; `NotToml` if `toml` rejects the text; out of memory (`Memory`). Nothing is allocated before the bytes are
+/// known to be UTF-8 and not too many.
 pub fn read_document(alloc: Global, bytes: &[u8]) -> Result<Table, ScriptFault>
     ensures reading { MatchResult result
         (λ root. tree_of_bytes bytes.now ≡ Ok (table_view root))
@@ -65,9 +64,11 @@ fn parse(alloc: Global, text: &str) -> Result<Table, ScriptFault>
     }
 }
 
-/// Reads a script from the tree of a document that may have some other keys beside the script's. The fault is the first of those of the
-/// keys in their order, `UnknownKey` for one that is neither the script's nor among the others; `Memory` is answered where a growth
-/// was refused.
+/// Reads a script from the tree of a document. The document can have the keys in `others` in addition to those of a script.
+/// Errors, in this order: those of `version`; `UnknownKey` for a key that is neither one of a script of this version nor in
+/// `others`; those of `test` as a name, `time_limit`, `quit_limit` and `runtime`; those of `type`, `override`, `set`,
+/// `verbosity`, `action`, `severity`, `probe` and `drain`; `UnknownType` or `WrongKind` if `test` does not name a component type;
+/// out of memory (`Memory`).
 #[tactic(auto, unfolding(crate::specs::Documents::script_beside))]
 pub fn read_table(alloc: Global, root: &Table, others: &[&str]) -> Result<Script, ScriptFault>
     ensures { IsReading (script_beside (map (λ key. key.now) others.now) (table_view root.now)) result }
@@ -99,7 +100,7 @@ pub fn read_table(alloc: Global, root: &Table, others: &[&str]) -> Result<Script
     })
 }
 
-// The drain times, which a script of version 2 may give.
+// Returns the drain times of a script of version 2, and none for version 1. Errors: as for `read_drains`.
 fn drains_given(alloc: Global, version: u64, root: &Table) -> Result<Vec<Drain>, ScriptFault>
     ensures sound { IfOk result (λ rows. All CanDrain rows.items) }
     ensures rows { MatchResult result
@@ -113,7 +114,8 @@ fn drains_given(alloc: Global, version: u64, root: &Table) -> Result<Vec<Drain>,
     }
 }
 
-// The type that the test names, a component.
+// Returns the type that the test names, which must be a component type, or `None` if there is no test. Errors: `UnknownType` if
+// no type has the name; `WrongKind` if the type is a sequence type.
 fn test_among(types: &TypeTable, test: Option<Name>) -> Result<Option<TypeId>, ScriptFault>
     ensures test { result ≡ test_among types.now test }
     ensures sound { IfOk result (IsComponentAt types.now) }

@@ -1,4 +1,4 @@
-//! What a script says.
+//! The values of a script.
 
 ghost use Rattle.std.specs.Prelude.{◌≡◌, ◌≤◌, [], All, IfOk, length};
 ghost use Rattle.uvm_config.specs.Answers.{most_settings};
@@ -12,7 +12,7 @@ use std::marker::Model;
 use uvm_factory::{Kind, Override, TypeId};
 use uvm_glob::Name;
 
-/// A script. Contracts see what it says; a type is its place among the types of the script, from 0.
+/// A script. Contracts see its values, as a `ScriptValue`; a type is its place among the types of the script, from 0.
 pub struct Script {
     pub(crate) version: u64,
     pub(crate) test: Option<TypeId>,
@@ -29,7 +29,7 @@ pub struct Script {
     pub(crate) drains: Vec<Drain>,
 }
 
-// (By hand, so that crates above prove no drop of what it holds.)
+// (Written by hand: crates that use a script then need no proof about the drop of its fields.)
 impl Drop for Script {
     fn drop(self) {
         let Script {
@@ -91,14 +91,14 @@ impl Model for Script {
 }
 
 impl Script {
-    /// The version of the script, 1 or 2.
+    /// Returns the version of the script, 1 or 2.
     pub fn version(&self) -> u64
         ensures { result ≡ self.now.version }
     {
         self.version
     }
 
-    /// The type of the test, a component, if the script names one.
+    /// Returns the type of the test, a component type, if the script names one.
     pub fn test(&self) -> Option<TypeId>
         ensures test { result ≡ self.now.test }
         ensures component { IsComponentAt self.now.types self.now.test }
@@ -106,7 +106,7 @@ impl Script {
         self.test
     }
 
-    /// The limit that the script sets to time, in ticks, at most 10^18.
+    /// Returns the time limit of the script in ticks, at most 10^18.
     pub fn time_limit(&self) -> u64
         ensures limit { result ≡ self.now.time_limit }
         ensures most { result ≤ most_time }
@@ -114,22 +114,23 @@ impl Script {
         self.time_limit
     }
 
-    /// The limit that the script sets to counted reports, at most 65,535; 0 for none.
+    /// Returns the limit of the number of counted reports, at most 65,535; 0 means no limit.
     pub fn quit_limit(&self) -> u16
         ensures { result ≡ self.now.quit_limit }
     {
         self.quit_limit
     }
 
-    /// Whether the twelve run-time phases go beside run (IEEE 1800.2-2020, Clause 9), from pre_reset to post_shutdown.
+    /// Returns whether the twelve run-time phases, from pre_reset to post_shutdown, run in parallel with the run phase (IEEE
+    /// 1800.2-2020, Clause 9).
     pub fn has_runtime(&self) -> bool
         ensures { result ≡ self.now.runtime }
     {
         self.runtime
     }
 
-    /// The types with their kinds, in the order in which they are registered, at most 1,024. They can be registered one after
-    /// another.
+    /// Returns the names and the kinds of the types in the order of registration, at most 1,024. Each can be registered after
+    /// those before it.
     pub fn types(&self) -> &[(Name, Kind)]
         ensures types { result.now ≡ self.now.types }
         ensures sound { CanRegister [] self.now.types }
@@ -137,7 +138,7 @@ impl Script {
         self.types.as_slice()
     }
 
-    /// The overrides in the order in which they are given, each between types of one kind.
+    /// Returns the overrides in the order in which they are given, each between types of one kind.
     pub fn overrides(&self) -> &[Override]
         ensures overrides { result.now ≡ self.now.overrides }
         ensures sound { All (CanOverride self.now.types) self.now.overrides }
@@ -145,7 +146,7 @@ impl Script {
         self.overrides.as_slice()
     }
 
-    /// The settings in the order in which they are given, at most 65,536.
+    /// Returns the settings in the order in which they are given, at most 65,536.
     pub fn settings(&self) -> &[Setting]
         ensures settings { result.now ≡ self.now.settings }
         ensures few { length result.now ≤ most_settings }
@@ -153,7 +154,7 @@ impl Script {
         self.settings.as_slice()
     }
 
-    /// The levels of verbosity in the order in which they are given, each at most 10,000.
+    /// Returns the verbosity settings in the order in which they are given, each with a level of at most 10,000.
     pub fn verbosities(&self) -> &[VerbositySetting]
         ensures verbosities { result.now ≡ self.now.verbosities }
         ensures sound { All HasLevelInRange self.now.verbosities }
@@ -161,21 +162,21 @@ impl Script {
         self.verbosities.as_slice()
     }
 
-    /// The settings of actions in the order in which they are given.
+    /// Returns the action settings in the order in which they are given.
     pub fn actions(&self) -> &[ActionSetting]
         ensures { result.now ≡ self.now.actions }
     {
         self.actions.as_slice()
     }
 
-    /// The changes of severities in the order in which they are given.
+    /// Returns the severity changes in the order in which they are given.
     pub fn severities(&self) -> &[SeverityChange]
         ensures { result.now ≡ self.now.severities }
     {
         self.severities.as_slice()
     }
 
-    /// The probes in order, each of a type of the script.
+    /// Returns the probes in the order in which they are given, each of a type of the script.
     pub fn probes(&self) -> &[Probe]
         ensures probes { result.now ≡ self.now.probes }
         ensures sound { All (CanProbe self.now.types) self.now.probes }
@@ -183,7 +184,8 @@ impl Script {
         self.probes.as_slice()
     }
 
-    /// The drain times in the order in which they are given, each of a phase that takes time (IEEE 1800.2-2020, 10.5). None in version 1.
+    /// Returns the drain times in the order in which they are given, each of a phase that takes time (IEEE 1800.2-2020, 10.5).
+    /// Version 1 has none.
     pub fn drains(&self) -> &[Drain]
         ensures drains { result.now ≡ self.now.drains }
         ensures sound { All CanDrain self.now.drains }

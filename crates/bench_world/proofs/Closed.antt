@@ -1,19 +1,5 @@
 -- A world whose wiring is closed.
-use Rattle.uvm_acts.specs.declared.acts.Who.{Who}
-use Rattle.std.proofs.Common.{◌≡◌, List, Bool, true, Option, Some, rules, unwrap_or}
-use Rattle.uvm_tree.specs.Sorted.{path_order}
-use Rattle.uvm_object.specs.Logs.{LogValue}
-use Rattle.bench_script.specs.Scripts.{ScriptValue}
-use Rattle.bench_history.specs.History.{nodes_of}
-use Rattle.bench_history.specs.Wires.{wiring_of}
-use Rattle.bench_history.specs.Next.{EachIsNext}
-use Rattle.bench_history.specs.Laws.{ConnectFollowsBuild, is_at_check}
-use Rattle.world_deeds.specs.declared.making.WaitingParts.{WaitingParts}
-use Rattle.world_services.specs.declared.services.Services.{Services}
-use Rattle.world_wiring.specs.Connectings.{IsConnecting, IsClosing}
-use Rattle.world_services.specs.Services.{ServicesMatch}
-use Rattle.bench_world.specs.Worlds.{IsWorld, IsReady}
-use Rattle.world_wiring.proofs.Connected.{connecting-closed, closing-now}
+use Rattle.bench_world.proofs.Common.{Who, ◌≡◌, List, Bool, true, Option, Some, rules, unwrap_or, path_order, LogValue, ScriptValue, nodes_of, wiring_of, EachIsNext, ConnectFollowsBuild, is_at_check, PendingParts, Services, IsConnecting, IsClosing, ServicesMatch, IsWorld, IsReady, connecting-closed, closing-now}
 
 -- the services, with the wiring closed
 abbrev pub with_order : Services → Services
@@ -25,7 +11,7 @@ closed-match {script} {services} log follows each at_check m =
     let closing : IsClosing script log.entries true = closing-now true follows each at_check in
     search (rules, connecting, closing)
 
-closed-ready : {script : ScriptValue} {log : LogValue} {services : Services} {waiting : WaitingParts} → IsReady waiting script log services → IsReady waiting script log (with_order services)
+closed-ready : {script : ScriptValue} {log : LogValue} {services : Services} {pending : PendingParts} → IsReady pending script log services → IsReady pending script log (with_order services)
 closed-ready r = record {
   left = r.left;
   needed = r.needed;
@@ -36,9 +22,9 @@ closed-ready r = record {
     log_spare = r.has_room.log_spare;
     tree_spare = r.has_room.tree_spare;
     objection_spare = r.has_room.objection_spare;
-    turns = r.has_room.turns;
+    phase_cursors = r.has_room.phase_cursors;
     sequence_spare = r.has_room.sequence_spare;
-    beginnings = r.has_room.beginnings;
+    start_records = r.has_room.start_records;
     agenda_spare = r.has_room.agenda_spare;
     report_room = r.has_room.report_room;
   };
@@ -46,8 +32,8 @@ closed-ready r = record {
 
 -- it is as good as before
 pub world-closed :
-    {P : Type 0} {sound : Bool} {script : ScriptValue} {log : LogValue} {services : Services} {waiting : Option WaitingParts} {leaving : List Who}
-    → P × IsWorld sound script log services waiting leaving → ConnectFollowsBuild → is_at_check script log.entries ≡ true → P × IsWorld sound script log (with_order services) waiting leaving
+    {P : Type 0} {sound : Bool} {script : ScriptValue} {log : LogValue} {services : Services} {pending : Option PendingParts} {leaving : List Who}
+    → P × IsWorld sound script log services pending leaving → ConnectFollowsBuild → is_at_check script log.entries ≡ true → P × IsWorld sound script log (with_order services) pending leaving
 world-closed {log = log} p follows at_check =
     let w = p.1 in
-    (p.0, record { limit = w.limit; legal = w.legal; services_match = λ sound. closed-match log follows w.legal.each at_check (w.services_match sound); leaves = w.leaves; waits = w.waits; ready = λ waiting is. closed-ready (w.ready waiting is) })
+    (p.0, record { limit = w.limit; legal = w.legal; services_match = λ sound. closed-match log follows w.legal.each at_check (w.services_match sound); leaves = w.leaves; waits = w.waits; ready = λ pending is. closed-ready (w.ready pending is) })

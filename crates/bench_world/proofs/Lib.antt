@@ -1,4 +1,5 @@
 pub mod Closed
+mod Common
 pub mod Going
 pub mod Makeable
 pub mod Waits

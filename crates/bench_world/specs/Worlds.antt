@@ -1,4 +1,4 @@
--- What contracts see of a world.
+-- The value of a world in contracts, and which entries may be added to it.
 use Rattle.std.specs.Prelude.{◌≡◌, ◌<◌, ℕ, Bool, true, false, List, ◌∷◌, length, Option, Some, None, is_some}
 use Rattle.std.specs.Option.{ForSome}
 use Rattle.uvm_acts.specs.declared.acts.Who.{Who}
@@ -12,94 +12,96 @@ use Rattle.uvm_object.specs.declared.fatals.Fatal.TheVariants.{NoObject}
 use Rattle.uvm_object.specs.declared.entries.Entry.TheVariants.{Granted}
 use Rattle.uvm_object.specs.Logs.{LogValue}
 use Rattle.bench_script.specs.Scripts.{ScriptValue}
-use Rattle.world_deeds.specs.declared.making.WaitingParts.{WaitingParts}
+use Rattle.world_entries.specs.declared.making.PendingParts.{PendingParts}
 use Rattle.bench_history.specs.Limits.{log_limit}
-use Rattle.bench_history.specs.History.{left_of, nodes_of, rest_of, speaker_of}
+use Rattle.bench_history.specs.History.{remaining_acts, nodes_of, rest_of, performer_of}
 use Rattle.bench_history.specs.Sequences.{leaving_of, sequences_of, start_by}
-use Rattle.world_sequences.specs.Sequencings.{home_for}
+use Rattle.world_sequencing.specs.SequencesMatch.{home_for}
 use Rattle.bench_history.specs.Cases.{Next, Exactly, Need, Grant, by_act, chosen_at}
 use Rattle.bench_history.specs.Next.{next_of, need_in, IsAct, IsLegal}
 use Rattle.bench_history.specs.Laws.{IsSettled}
 use Rattle.world_services.specs.Services.{ServicesMatch}
-use Rattle.world_deeds.specs.Rooms.{HasRoomToMake}
+use Rattle.world_entries.specs.Rooms.{HasRoomToMake}
 use Rattle.uvm_acts.specs.declared.acts.Who.TheVariants as who
 use Rattle.bench_history.specs.declared.needs.Need as needs
 
--- an act makes an object
+-- an action makes an object: it creates a component or starts a sequence
 abbrev pub IsMaking : Act → Type 0
 IsMaking (Create type_name name) = Unit {0}
 IsMaking (Start type_name name on priority) = Unit {0}
 IsMaking act = ⊥
 
--- the script, the entries with the newest first, whether the services are what they say, and the object for which the next act waits,
--- once it was found to need one
+-- the value of a world: the script, the log (newest entry first), whether the services agree with the log, and the object for which the next
+-- action waits, if any
 pub record WorldValue : Type 0 where
   pub script : ScriptValue
   pub history : List Entry
   pub sound : Bool
-  pub waiting : Option needs.Need
+  pub pending : Option needs.Need
 
--- one more entry
+-- the world with one more entry
 abbrev pub world_after : Entry → WorldValue → WorldValue
-world_after entry world = record world { history = entry ∷ world.history; waiting = None }
+world_after entry world = record world { history = entry ∷ world.history; pending = None }
 
--- memory was refused
+-- the world after an allocation failed: it is not consistent, and no action waits for an object
 abbrev pub broken : WorldValue → WorldValue
-broken world = record world { sound = false; waiting = None }
+broken world = record world { sound = false; pending = None }
 
--- a creation or a start waits: it is the next act, and needs this object; there is room for its entry, and for the report of an object that is declined
-pub record IsReady (waiting : WaitingParts) (script : ScriptValue) (log : LogValue) (services : Services) : Type 0 where
-  pub left : left_of script log.entries ≡ waiting.deed ∷ rest_of (left_of script log.entries)
-  pub needed : need_in (next_of script log.entries) ≡ Some waiting.need
-  pub home : waiting.home ≡ home_for services.tree.nodes services.answer.speaker waiting.deed
+-- the waiting creation or start is the next action and needs this object. The log is not full, and capacity is reserved for the entry of
+-- the action and for the report of a declined object
+pub record IsReady (pending : PendingParts) (script : ScriptValue) (log : LogValue) (services : Services) : Type 0 where
+  pub left : remaining_acts script log.entries ≡ pending.stored_act ∷ rest_of (remaining_acts script log.entries)
+  pub needed : need_in (next_of script log.entries) ≡ Some pending.need
+  pub home : pending.home ≡ home_for services.tree.nodes services.answer.performer pending.stored_act
   pub room : length log.entries < log_limit script
-  pub declined : waiting.declined ≡ fatal_report NoObject
+  pub declined : pending.declined ≡ fatal_report NoObject
   pub has_room : HasRoomToMake (id_of NoObject) log services
 
--- the log is legal, and while the world is sound its services are what the log says, and those that leave are kept
-pub record IsWorld (sound : Bool) (script : ScriptValue) (log : LogValue) (services : Services) (waiting : Option WaitingParts) (leaving : List Who) : Type 0 where
+-- the log is legal. While the world is consistent, its services agree with the log and the sequences that the newest entry ended are
+-- stored; only then may an action wait for an object
+pub record IsWorld (sound : Bool) (script : ScriptValue) (log : LogValue) (services : Services) (pending : Option PendingParts) (leaving : List Who) : Type 0 where
   pub limit : log.limit ≡ log_limit script
   pub legal : IsLegal script log.entries
   pub services_match : sound ≡ true → ServicesMatch script log.entries services
   pub leaves : sound ≡ true → leaving ≡ leaving_of log.entries
-  pub waits : ForSome waiting (λ waiting. sound ≡ true)
-  pub ready : ForSome waiting (λ waiting. IsReady waiting script log services)
+  pub waits : ForSome pending (λ pending. sound ≡ true)
+  pub ready : ForSome pending (λ pending. IsReady pending script log services)
 
--- this may be the next entry
+-- the world is consistent, its log is not full, and this comes next
 pub record MayEnter (world : WorldValue) (comes : Next) : Type 0 where
   pub sound : world.sound ≡ true
   pub room : length world.history < log_limit world.script
   pub next : next_of world.script world.history ≡ comes
 
--- an item may be granted at this sequencer, by this word
+-- a grant at this sequencer may be the next entry (`MayEnter`), with a random number exactly if one decides
 abbrev pub MayGrant : WorldValue → ℕ → Option ℕ → Type 0
 MayGrant world sequencer word = MayEnter world (Grant sequencer (is_some word) (chosen_at world.history sequencer))
 
--- an act of the last answer comes next
+-- the world is consistent, its log is not full, and an action of the last answer comes next
 pub record MayAct (world : WorldValue) : Type 0 where
   pub sound : world.sound ≡ true
   pub room : length world.history < log_limit world.script
   pub next : IsAct (next_of world.script world.history)
 
--- it is this one
+-- as `MayAct`, for this action: it is the first that is left, and nothing can be granted or transferred
 pub record MayPerform (world : WorldValue) (act : Act) : Type 0 where
   pub sound : world.sound ≡ true
   pub room : length world.history < log_limit world.script
   pub settled : IsSettled world.history
-  pub left : left_of world.script world.history ≡ act ∷ rest_of (left_of world.script world.history)
-  pub next : next_of world.script world.history ≡ by_act world.script world.history (speaker_of world.history) act
+  pub left : remaining_acts world.script world.history ≡ act ∷ rest_of (remaining_acts world.script world.history)
+  pub next : next_of world.script world.history ≡ by_act world.script world.history (performer_of world.history) act
 
--- an item is granted to the sequence that is chosen, by this word
+-- the new world has one more entry, the grant of an item to the chosen sequence, by this random number if one decides
 abbrev pub IsGranted : ℕ → Option ℕ → WorldValue → WorldValue → Type 0
 IsGranted sequencer word old new = (id : ℕ) × (chosen_at old.history sequencer word ≡ Some id) × (new ≡ world_after (Granted sequencer (record { id = id; word = word })) old)
 
--- what comes of the next act: its entry; or it waits for the object that it needs, and nothing else has changed
+-- the result of the next action: its entry is added; or the action waits for the object that it needs, and nothing else changes
 abbrev pub IsActed : Next → WorldValue → WorldValue → Type 0
 IsActed (Exactly entry) old new = new ≡ world_after entry old
-IsActed (Need need made performer act) old new = new ≡ record old { waiting = Some need }
+IsActed (Need need made performer act) old new = new ≡ record old { pending = Some need }
 IsActed next old new = ⊥
 
--- who an object is, once it is made: the node behind those that are there, or the sequence that is started
+-- the component or sequence that a needed object is once it is made: a node with the next number, or the sequence that is started
 abbrev pub made_who : List Entry → Next → Option Who
 made_who history (Need need (Made type_name) performer act) = Some (who.Node (length (nodes_of history)))
 made_who history (Need need (Started id) performer act) = Some (who.Sequence (start_by (nodes_of history) (sequences_of history) performer act).home id)

@@ -1,9 +1,9 @@
-//! The entries of a log that are no act's.
+//! Appends the entries of a log that no action causes: kernel entries, answers, grants and transfers.
 
 ghost use Rattle.std.specs.Prelude.{◌≡◌, ◌<◌, true, OnOk, OnErr};
 ghost use Rattle.uvm_object.specs.declared.entries.Entry.TheVariants.{Heard, Passed};
 ghost use Rattle.bench_history.specs.Cases.{Exactly, Answer};
-ghost use Rattle.world_entries.specs.Marks.{entry_of};
+ghost use Rattle.world_entries.specs.KernelEntries.{entry_of};
 ghost use Rattle.bench_world.specs.Worlds.{IsGranted, MayEnter, MayGrant, world_after, broken};
 
 use crate::worlds::World;
@@ -11,36 +11,41 @@ use bench_history::laws;
 use std::alloc::AllocError;
 use uvm_object::{Acts, Call, Entry, Grant, LoggedPassage, Origin, Passage, Who};
 use uvm_tree::NodeId;
-use world_deeds::logs::push;
-use world_entries::marks::{self, Mark};
+use world_entries::kernel_entries::{self, KernelEntry};
+use world_entries::logs::push;
 use world_entries::{answers, grants};
 
 impl World {
-    /// An entry that the machine makes by itself. The world is sound, its log is not full, and this entry is next. Errors: out of memory; the
-    /// log stays as it was, and the world is not sound any more.
+    /// Appends a kernel entry (`KernelEntry`) to the log and updates the services. Requires a consistent world whose log is not full, and
+    /// that this entry comes next. Errors: out of memory; the log is unchanged, and the world is no longer consistent.
     #[inline(never)]
-    pub fn enter(&mut self, mark: Mark) -> Result<(), AllocError>
-        requires { MayEnter self.old (Exactly (entry_of mark)) }
-        ensures ok { OnOk result (self.new ≡ world_after (entry_of mark) self.old) }
+    pub fn enter(&mut self, kernel_entry: KernelEntry) -> Result<(), AllocError>
+        requires { MayEnter self.old (Exactly (entry_of kernel_entry)) }
+        ensures ok { OnOk result (self.new ≡ world_after (entry_of kernel_entry) self.old) }
         ensures err { OnErr result (self.new ≡ broken self.old) }
     {
-        // Time passes no limit, so that a wait can be added to it, and one more report can be counted.
+        // The time is within its limit, so a wait can be added to it. One more report can be counted.
         laws::time_stays_within_its_limit();
         laws::reports_are_few();
         let _limit = self.script.time_limit();
         self.sound = false;
-        self.waiting = None;
+        self.pending = None;
         let place = self.log.next_place();
-        let (entry, leaving) = marks::enter(&mut self.services, self.alloc, place, mark)?;
+        let (entry, leaving) = kernel_entries::enter(
+            &mut self.services,
+            self.alloc,
+            place,
+            kernel_entry,
+        )?;
         self.leaving = leaving;
         push(&mut self.log, entry)?;
         self.sound = true;
         Ok(())
     }
 
-    /// Somebody was called and answered: the call was due with an origin, or is that of a phase in progress. The world is sound, its log is not
-    /// full, and an answer of this one to this call is next. Errors: out of memory; the log stays as it was, and the world is not sound
-    /// any more.
+    /// Records the answer of `who` to `call`: the actions `acts`. `origin` is the origin of a scheduled call, and `None` for the call of an
+    /// active phase. Requires a consistent world whose log is not full, and that an answer of `who` to this call comes next. Errors: out of
+    /// memory; the log is unchanged, and the world is no longer consistent.
     #[inline(never)]
     pub fn heard(
         &mut self,
@@ -54,7 +59,7 @@ impl World {
         ensures err { OnErr result (self.new ≡ broken self.old) }
     {
         self.sound = false;
-        self.waiting = None;
+        self.pending = None;
         self.leaving.clear();
         let (place, count) = (self.log.next_place(), acts.len());
         answers::hear(&mut self.services, place, who.copy(), call, origin, count);
@@ -64,9 +69,9 @@ impl World {
         Ok(())
     }
 
-    /// An item is granted at a sequencer, by the word where one decides, and the sequence that may send it is to hear of it
-    /// (Clause 15). The world is sound, its log is not full, a grant at this sequencer is next, and a word is given exactly where
-    /// one decides. Errors: out of memory; the log stays as it was, and the world is not sound any more.
+    /// Records the grant of an item at a sequencer, and schedules the call to the sequence that may send it (Clause 15). Requires a
+    /// consistent world whose log is not full, and that a grant at this sequencer comes next. `word` is the random number, and is given
+    /// exactly if one decides. Errors: out of memory; the log is unchanged, and the world is no longer consistent.
     #[inline(never)]
     pub fn granted(&mut self, sequencer: NodeId, word: Option<u64>) -> Result<(), AllocError>
         requires { MayGrant self.old sequencer word }
@@ -74,7 +79,7 @@ impl World {
         ensures err { OnErr result (self.new ≡ broken self.old) }
     {
         self.sound = false;
-        self.waiting = None;
+        self.pending = None;
         self.leaving.clear();
         let place = self.log.next_place();
         let id = grants::grant(&mut self.services, place, sequencer, word)?;
@@ -84,9 +89,9 @@ impl World {
         Ok(())
     }
 
-    /// What somebody waits for at a FIFO comes to pass, and whoever asked is to hear of it (Clause 12). The world is sound, its
-    /// log is not full, and this entry is next. Errors: out of memory; the log stays as it was, and the world is not sound
-    /// any more.
+    /// Records a transfer at a FIFO, which completes a waiting request, and schedules the call to the requester (Clause 12). Requires a
+    /// consistent world whose log is not full, and that this entry comes next. Errors: out of memory; the log is unchanged, and the world
+    /// is no longer consistent.
     #[inline(never)]
     pub fn passed(&mut self, fifo: NodeId, passage: Passage) -> Result<(), AllocError>
         requires { MayEnter self.old (Exactly (Passed fifo passage)) }
@@ -94,7 +99,7 @@ impl World {
         ensures err { OnErr result (self.new ≡ broken self.old) }
     {
         self.sound = false;
-        self.waiting = None;
+        self.pending = None;
         self.leaving.clear();
         let place = self.log.next_place();
         grants::pass_item(&mut self.services, place, fifo, &passage)?;

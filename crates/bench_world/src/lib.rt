@@ -1,9 +1,9 @@
-//! The world of a run: the script, the log, and the services, each of which is what the log says.
+//! The world of a run: its script, its log, and its services, whose state follows from the log.
 #![tactic(auto)]
 
-mod deeds;
 mod entries;
 mod making;
+mod stored_acts;
 mod unsound_ports;
 mod worlds;
 

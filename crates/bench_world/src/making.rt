@@ -1,4 +1,4 @@
-//! Creations: an object is needed, and is made or declined.
+//! Creations and starts that wait for an object: the object is made or declined.
 
 ghost use Rattle.std.specs.Prelude.{◌≡◌, IfSome, IsSome, Some};
 ghost use Rattle.std.specs.Option.{option_copied};
@@ -8,24 +8,25 @@ ghost use Rattle.bench_world.specs.Worlds.{made_who, world_after};
 use crate::worlds::World;
 use bench_history::{Need, laws};
 use uvm_object::{Fatal, Who};
-use world_deeds::making::{WaitingParts, make, take_parts};
-use world_deeds::performing::enter;
-use world_services::attempts::refused_by;
+use world_entries::making::{PendingParts, make, take_parts};
+use world_entries::performing::enter;
+use world_services::act_results::refused_by;
 
 impl World {
-    /// The object for which the next act waits, if it does.
+    /// Returns the object for which the next action waits, or `None` if it waits for none.
     pub fn need(&self) -> Option<&Need>
-        ensures { option_copied result ≡ self.now.waiting }
+        ensures { option_copied result ≡ self.now.pending }
     {
-        match &self.waiting {
-            Some(waiting) => Some(&waiting.parts().need),
+        match &self.pending {
+            Some(pending) => Some(&pending.parts().need),
             None => None,
         }
     }
 
-    /// The needed object is made: who it is now. Takes no memory.
+    /// Records that the needed object is made, and returns the component or sequence that it is. Requires that an action waits for it.
+    /// Allocates no memory.
     pub fn made(&mut self) -> Who
-        requires { IsSome self.old.waiting }
+        requires { IsSome self.old.pending }
         ensures who { made_who self.old.history (next_of self.old.script self.old.history) ≡ Some result }
         ensures entry { IfSome (made_in (next_of self.old.script self.old.history)) (λ entry. self.new ≡ world_after entry self.old) }
     {
@@ -35,12 +36,12 @@ impl World {
         laws::acts_are_in_phase();
         self.sound = false;
         self.leaving.clear();
-        let Some(parts) = take_parts(&mut self.waiting) else {
+        let Some(parts) = take_parts(&mut self.pending) else {
             unreachable!()
         };
-        let WaitingParts {
+        let PendingParts {
             need,
-            deed,
+            stored_act,
             home,
             name,
             declined: _,
@@ -49,22 +50,23 @@ impl World {
         let services = &mut self.services;
         let (who, outcome) = make(
             services,
-            deed.act().get(),
+            stored_act.act().get(),
             home,
             name,
             need.type_name,
             place,
         );
-        let Ok(()) = enter(&mut self.log, &mut services.answer, outcome, deed) else {
+        let Ok(()) = enter(&mut self.log, &mut services.answer, outcome, stored_act) else {
             unreachable!()
         };
         self.sound = true;
         who
     }
 
-    /// The needed object is declined. Takes no memory.
+    /// Records that the needed object is declined: its action is rejected with `Fatal::NoObject`. Requires that an action waits for it.
+    /// Allocates no memory.
     pub fn declined(&mut self)
-        requires { IsSome self.old.waiting }
+        requires { IsSome self.old.pending }
         ensures { IfSome (declined_in (next_of self.old.script self.old.history)) (λ entry. self.new ≡ world_after entry self.old) }
     {
         laws::needs_are_wanted();
@@ -74,15 +76,19 @@ impl World {
         laws::reports_are_few();
         self.sound = false;
         self.leaving.clear();
-        let Some(parts) = take_parts(&mut self.waiting) else {
+        let Some(parts) = take_parts(&mut self.pending) else {
             unreachable!()
         };
-        let WaitingParts { deed, declined, .. } = parts;
+        let PendingParts {
+            stored_act,
+            declined,
+            ..
+        } = parts;
         let services = &mut self.services;
         let Ok(refused) = refused_by(services, self.alloc, Fatal::NoObject, &declined) else {
             unreachable!()
         };
-        let Ok(()) = enter(&mut self.log, &mut services.answer, refused, deed) else {
+        let Ok(()) = enter(&mut self.log, &mut services.answer, refused, stored_act) else {
             unreachable!()
         };
         self.sound = true;

@@ -3,8 +3,8 @@ use Rattle.std.proofs.Common.{◌≡◌, ◌⊎◌, ℕ, Bool, List, [], Option,
 use Rattle.std.specs.Io.KnownBytes.{Keeps}
 use Rattle.std.proofs.KnownBytes.{Appends-kept, Keeps-trans}
 use Rattle.uvm_object.specs.declared.entries.Entry.{Entry}
-use Rattle.bench_run.specs.declared.endings.Ending.{Ending}
-use Rattle.script_values.specs.declared.faults.ScriptFault.{ScriptFault}
+use Rattle.bench_run.specs.declared.run_results.RunResult.{RunResult}
+use Rattle.script_tables.specs.declared.faults.ScriptFault.{ScriptFault}
 use Rattle.bench_script.specs.Scripts.{ScriptValue}
 use Rattle.rand_core.specs.Stream.{Stream}
 use Rattle.bench_run.specs.Running.{LeavesRun, WroteLog}
@@ -13,10 +13,11 @@ use Rattle.bench_run.specs.declared.faults.RunFault.TheVariants as ran
 use Rattle.bus_command.specs.Commands.{Asked, debug, run}
 use Rattle.bus_jobs.specs.Debugging.{BrokeOff, IsDebugRun}
 use Rattle.bus_bench.specs.Program.{IsJobDone, IsJobOn, IsWork}
-use Rattle.bus_jobs.specs.Runs.{IsBenchRun, IsBusRun, script_to_run, words_of_seed}
+use Rattle.bus_jobs.specs.Runs.{IsBenchRun, IsBusRun, script_to_run}
+use Rattle.script_input.specs.Scripts.{words_of_seed}
 use Rattle.bus_jobs.specs.Verdicts.{unflushed}
-use Rattle.bus_jobs.specs.declared.verdicts.Breakage.{Breakage}
-use Rattle.bus_jobs.specs.declared.verdicts.Breakage.TheVariants.{Memory, LogFull, Output, Unread}
+use Rattle.script_input.specs.declared.breakages.Breakage.{Breakage}
+use Rattle.script_input.specs.declared.breakages.Breakage.TheVariants.{Memory, LogFull, Output, Unread}
 use Rattle.bus_jobs.specs.declared.verdicts.Verdict.{Verdict}
 use Rattle.bus_jobs.specs.declared.verdicts.Verdict.TheVariants.{Clean, Faulty, Refused, Broken}
 
@@ -37,8 +38,8 @@ debug_run-kept bytes old mid new (Broken breakage) done kept = broke_off-kept _ 
 wrote_log-kept : (script : ScriptValue) (trace : Bool) (old mid new : Option (List ℕ)) (history : List Entry) (more : List ℕ) → WroteLog script trace old mid history more → Keeps mid new → WroteLog script trace old new history more
 wrote_log-kept script trace old mid new history more log kept = record { legal = log.legal; wrote = Appends-kept old mid new _ log.wrote kept }
 
-leaves_run-kept : (script : ScriptValue) (trace : Bool) (history : List Entry) (old mid new : Option (List ℕ)) (result : Result Ending RunFault) → LeavesRun script trace history old mid result → Keeps mid new → LeavesRun script trace history old new result
-leaves_run-kept script trace history old mid new (Ok ending) ran kept = (ran.0, wrote_log-kept script trace old mid new history _ ran.1 kept)
+leaves_run-kept : (script : ScriptValue) (trace : Bool) (history : List Entry) (old mid new : Option (List ℕ)) (result : Result RunResult RunFault) → LeavesRun script trace history old mid result → Keeps mid new → LeavesRun script trace history old new result
+leaves_run-kept script trace history old mid new (Ok run_result) ran kept = (ran.0, wrote_log-kept script trace old mid new history _ ran.1 kept)
 leaves_run-kept script trace history old mid new (Err ran.Memory) broke kept = record {
   unwritten = broke.unwritten;
   written = broke.written;
@@ -52,7 +53,7 @@ leaves_run-kept script trace history old mid new (Err ran.LogFull) broke kept = 
 leaves_run-kept script trace history old mid new (Err ran.Output) broke kept = broke
 leaves_run-kept script trace history old mid new (Err ran.NoTest) broke kept = (broke.0, broke.1, Keeps-trans old mid new broke.2 kept)
 
-run-kept : (words : Stream) (script : ScriptValue) (trace : Bool) (old mid new : Option (List ℕ)) (result : Result Ending RunFault) → IsBusRun words script trace old mid result → Keeps mid new → IsBusRun words script trace old new result
+run-kept : (words : Stream) (script : ScriptValue) (trace : Bool) (old mid new : Option (List ℕ)) (result : Result RunResult RunFault) → IsBusRun words script trace old mid result → Keeps mid new → IsBusRun words script trace old new result
 run-kept words script trace old mid new result left kept =
     (left.0, record { history = left.1.history; legal = left.1.legal; leaves = leaves_run-kept script trace left.1.history old mid new result left.1.leaves kept; words = left.1.words; given = left.1.given; objects = left.1.objects })
 

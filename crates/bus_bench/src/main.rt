@@ -1,10 +1,10 @@
-//! The program `bus_bench`: `debug FILE` prints which types a script's factory makes, and `run FILE`
-//! runs the script.
+//! The program `bus_bench`: `debug FILE` prints which types a script's factory makes, and `run FILE` runs the script.
 #![tactic(auto)]
 
 mod program;
 
-use bus_jobs::{Breakage, Verdict, tell};
+use bus_jobs::{Verdict, tell};
+use script_input::Breakage;
 use std::io::BufWriter;
 use std::process::ExitCode;
 

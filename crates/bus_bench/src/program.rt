@@ -1,4 +1,4 @@
-//! What the program does, on any runtime and with any writers.
+//! The commands of the program, on any runtime and with any writers.
 ghost use Rattle.std.specs.Prelude.{◌≡◌, ◌⊎◌, IfErr, IfOk, map, OnErr, OnOk};
 ghost use Rattle.bus_command.specs.Commands.{words_of};
 ghost use Rattle.bus_bench.specs.Program.{CameTo, DidJob, DidNothing, GaveText, IsJobDone, IsJobOn, IsReport, IsServed, IsShown, IsTold, IsWork};
@@ -6,7 +6,8 @@ ghost use Rattle.bus_jobs.specs.Verdicts.{unflushed};
 
 use bench_script::ScriptFault;
 use bus_command::{Job, JobFault, job};
-use bus_jobs::{Breakage, Verdict, debug_bench, read_file, run_bench, tell};
+use bus_jobs::{Verdict, debug_bench, run_bench, tell};
+use script_input::{Breakage, read_file};
 use std::alloc::Global;
 use std::convert::AsStr;
 use std::fs::File;
@@ -14,12 +15,12 @@ use std::io::Write;
 use std::rt::{Env, Files};
 use std::{env, io};
 
-// The exit status where the words are none that the program takes.
+// The exit status if the arguments are rejected.
 const REFUSED: u8 = 2;
 
-/// Does what the words of the command line ask for, and answers the exit status: that of the job's verdict (0 clean, 1 faulty, 2
-/// refused, 3 broken); 0 for help, or 3 where that could not be written; 2 for words that it does not take, and 3 when out of memory.
-/// What is asked for is written to `out`, and what is wrong to `err`.
+/// Executes the command line and returns the exit status: that of the job's verdict (0 clean, 1 faulty, 2 refused, 3 broken). For help and
+/// the version it returns 0, or 3 if the text could not be written. It returns 2 if the arguments are rejected, and 3 if memory runs out.
+/// Writes the results to `out`, and errors to `err`.
 pub fn run<R: Env + Files + AllocGlobal, O: Write, E: Write>(rt: &R, out: &mut O, err: &mut E) -> u8
     ensures { DidNothing (O.contents out.old) (O.contents out.new) result ⊎ (GaveText (O.contents out.old) (O.contents out.new) result ⊎ DidJob (O.contents out.old) (O.contents out.new) result) }
 {
@@ -35,8 +36,8 @@ pub fn run<R: Env + Files + AllocGlobal, O: Write, E: Write>(rt: &R, out: &mut O
     }
 }
 
-/// Does what some words of a command line ask for, of which the first is the program's name, and answers the exit status, as `run`
-/// says. What is asked for is written to `out`, and what is wrong to `err`.
+/// Executes the arguments of a command line, of which the first is the program's name, and returns the exit status, as `run` does. Writes the
+/// results to `out`, and errors to `err`.
 pub fn serve<R: Files + AllocGlobal, S: AsStr, O: Write, E: Write>(
     rt: &R,
     words: &[S],
@@ -52,8 +53,7 @@ fn words<R: Env + AllocGlobal>(rt: &R) -> io::Result<Vec<String>> {
     Ok(env::args(rt)?.collect(rt.alloc())?)
 }
 
-/// Does what was asked for, and answers the exit status, as `run` says. What is asked for is written to `out`, and what is wrong to
-/// `err`.
+/// Does the requested job and returns the exit status, as `run` does. Writes the results to `out`, and errors to `err`.
 pub fn obey<R: Files + AllocGlobal, O: Write, E: Write>(
     rt: &R,
     asked: Result<Job<'_>, JobFault>,
@@ -72,7 +72,7 @@ pub fn obey<R: Files + AllocGlobal, O: Write, E: Write>(
     }
 }
 
-// Tells why no job is asked for, and answers the exit status.
+// Writes why the arguments name no job, or the text that they request, and returns the exit status.
 fn refuse<O: Write, E: Write>(fault: JobFault, out: &mut O, err: &mut E) -> u8
     ensures { IsTold fault (O.contents out.old) (O.contents out.new) result }
 {
@@ -87,7 +87,7 @@ fn refuse<O: Write, E: Write>(fault: JobFault, out: &mut O, err: &mut E) -> u8
     }
 }
 
-// Writes the text that was asked for, and answers the exit status.
+// Writes the requested text, and returns the exit status: 0, or 3 if the text could not be written.
 fn show<O: Write, E: Write>(text: &str, out: &mut O, err: &mut E) -> u8
     ensures { IsShown text.now (O.contents out.old) (O.contents out.new) result }
 {
@@ -98,14 +98,14 @@ fn show<O: Write, E: Write>(text: &str, out: &mut O, err: &mut E) -> u8
     }
 }
 
-// The file of a job.
+// Returns the path of the file of a job.
 fn file_of<'a>(job: &Job<'a>) -> &'a str {
     match job {
         Job::Debug { file } | Job::Run { file, .. } => file,
     }
 }
 
-// Opens the file of a job and does the job on it.
+// Opens the file of a job, does the job on it, and returns the verdict: `Broken(Unread)` if the file cannot be opened.
 #[tactic(auto, using(crate::proofs::Reports::done_of))]
 fn verdict_on_file<R: Files + AllocGlobal, O: Write>(rt: &R, job: &Job<'_>, out: &mut O) -> Verdict
     ensures { IsJobDone (words_of job.now) (O.contents out.old) (O.contents out.new) result }
@@ -116,8 +116,9 @@ fn verdict_on_file<R: Files + AllocGlobal, O: Write>(rt: &R, job: &Job<'_>, out:
     }
 }
 
-/// Does a job on what is read of its file, flushes what it wrote to `out`, and answers the verdict: `Broken` for a file that is not
-/// read, with nothing written, or for output that could not be flushed, and else that of the job.
+/// Does a job on the bytes that are read from its file, flushes `out`, and returns the verdict. If the file is not read, the verdict is
+/// `Broken`, with nothing written. If the output cannot be flushed, the verdict on a `Clean` or `Faulty` job is `Broken(Output)`. Otherwise
+/// it is the verdict on the job.
 pub fn do_job<I: io::Read, O: Write>(
     alloc: Global,
     job: &Job<'_>,
@@ -128,11 +129,11 @@ pub fn do_job<I: io::Read, O: Write>(
 {
     match read_file(alloc, file) {
         Ok(bytes) => report(alloc, job, bytes.as_slice(), out),
-        Err(unread) => unread,
+        Err(unread) => Verdict::Broken(unread),
     }
 }
 
-// Does a job on the bytes of its file, and flushes what was written.
+// Does a job on the bytes of its file, and flushes the output. Returns the verdict, as `do_job` does.
 fn report<O: Write>(alloc: Global, job: &Job<'_>, bytes: &[u8], out: &mut O) -> Verdict
     ensures { IsReport (words_of job.now) bytes.now (O.contents out.old) (O.contents out.new) result }
 {
@@ -140,7 +141,7 @@ fn report<O: Write>(alloc: Global, job: &Job<'_>, bytes: &[u8], out: &mut O) -> 
     flushed(verdict, out.flush())
 }
 
-// Does a job on the bytes of its file.
+// Does a job on the bytes of its file, and returns the verdict.
 fn work<O: Write>(alloc: Global, job: &Job<'_>, bytes: &[u8], out: &mut O) -> Verdict
     ensures { IsWork (words_of job.now) bytes.now (O.contents out.old) (O.contents out.new) result }
 {
@@ -155,7 +156,7 @@ fn work<O: Write>(alloc: Global, job: &Job<'_>, bytes: &[u8], out: &mut O) -> Ve
     }
 }
 
-// The verdict on work whose output was flushed, or was not.
+// Returns the verdict on a job after its output was flushed. If the flush failed, `Clean` and `Faulty` become `Broken(Output)`.
 fn flushed(verdict: Verdict, flush: io::Result<()>) -> Verdict
     ensures ok { OnOk flush (result ≡ verdict) }
     ensures err { OnErr flush (result ≡ unflushed verdict) }

@@ -1,30 +1,7 @@
 -- Words with no fault name a job.
-use Rattle.std.proofs.Common.{◌≡◌, ◌⊎◌, ◌&&◌, ◌||◌, ◌∙◌, ℕ, Bool, cond, true, false, not, refl, sym, ap, subst, inl, inr, List, [], Option, Some, None, IfSome, Result, Ok, Err, IfErr, OnErr, OnOk, is_some, codes, arith}
-use Rattle.std.specs.Prelude.{unwrap_or}
-use Rattle.std.specs.Option.{option_map, option_map_or}
-use Rattle.clap.specs.Values.{Accepts}
-use Rattle.std.specs.Str.Parse.{ParsesUnsigned, digits_value, without_leading_plus}
-use Rattle.std.specs.Borrow.{Bor}
-use Rattle.clap.specs.Simple.{App, HasMatchesOf, Shape, is_simple, argument_words, built, built_leaf, entered, filled, inherited, names_of, subcommand_of}
-use Rattle.clap.specs.Takes.{is_given}
-use Rattle.clap.specs.Walk.{Row, Text, first_of, nothing_held, one_of, rows_after, rows_of, stop_after, walk_from}
-use Rattle.clap.specs.Faults.{entered_fault, fault_of}
-use Rattle.clap.specs.Matches.{ReadsOne, first_value, subcommand_name_of}
-use Rattle.clap.specs.Kinds.{Kinds}
-use Rattle.clap.specs.declared.parser.matches.Found.{Found}
-use Rattle.clap.proofs.WalkLemmas.{first_value-rows}
-use Rattle.bus_command.specs.declared.jobs.Job.{Job}
-use Rattle.bus_command.specs.Commands.{Asked, has_bad_name, HasFile, NamesJob, bus_bench_app, debug_app, run_app, seed_parser, seed_rule, trace_rule}
-use Rattle.bus_command.specs.Faults.{IsFaultBy, IsJobFaultOf}
-use Rattle.bus_command.specs.declared.jobs.JobFault.{JobFault}
-use Rattle.bus_command.specs.declared.jobs.JobFault.TheVariants.{Help, Version, Refused, BadName, Memory}
-use Rattle.clap.specs.declared.error.Error.{Error}
-use Rattle.clap.specs.declared.error.kind.ErrorKind.TheVariants.{DisplayHelp, DisplayVersion, OutOfMemory}
-use Rattle.clap.specs.declared.parser.matches.ArgMatches.{ArgMatches}
-use Rattle.clap.specs.declared.parser.matches.ArgMatches.TheViews.{out-ArgMatches}
-use Rattle.clap.specs.Words.{is_simple_and_free, kind_of, subcommand_rows_of}
+use Rattle.bus_command.proofs.Common.{◌≡◌, ◌⊎◌, ◌&&◌, ◌||◌, ◌∙◌, ℕ, Bool, cond, true, false, not, refl, sym, ap, subst, inl, inr, List, [], Option, Some, None, IfSome, Result, Ok, Err, IfErr, OnErr, OnOk, is_some, codes, arith, unwrap_or, option_map, option_map_or, Accepts, ParsesUnsigned, digits_value, without_leading_plus, Bor, HasMatchesOf, Shape, is_simple, argument_words, built, built_leaf, entered, filled, inherited, names_of, subcommand_of, is_given, Row, first_of, nothing_held, rows_after, stop_after, walk_from, entered_fault, ReadsOne, first_value, subcommand_name_of, Kinds, Found, first_value-rows, Job, Asked, has_bad_name, HasFile, NamesJob, bus_bench_app, debug_app, run_app, seed_parser, seed_rule, trace_rule, IsFaultBy, IsJobFaultOf, JobFault, Help, Version, Refused, BadName, Memory, Error, DisplayHelp, DisplayVersion, OutOfMemory, ArgMatches, out-ArgMatches, is_simple_and_free, kind_of, subcommand_rows_of, App, Text, one_of, rows_of, fault_of}
 use Rattle.bus_command.proofs.RowLemmas.{AreRegular, Reads, given_value, rows_read, rows_sound}
-use Rattle.bus_command.proofs.LevelLemmas.{IsOwn, IsOwnStop, checks_none, level_parts, walk_own}
+use Rattle.bus_command.proofs.LevelLemmas.{IsCommandName, IsOwnStop, checks_none, level_parts, walk_own}
 
 -- an argument that is required was given
 given_of : (g other : Bool) → (not g || other) ≡ false → g ≡ true
@@ -91,7 +68,7 @@ run_entered words fault =
     let seed = seed_told (one_of (codes "seed") rows) (is_given (codes "seed") rows) (rows_read run_shape.rules (codes "seed") _ rows sound refl refl) in
     (given_value run_shape.rules (codes "file") rows sound given, inr (refl, trace, seed))
 
-own_name : (name : Text) → IsOwn (names_of app) name → (name ≡ codes "debug") ⊎ (name ≡ codes "run")
+own_name : (name : Text) → IsCommandName (names_of app) name → (name ≡ codes "debug") ⊎ (name ≡ codes "run")
 own_name name own = elim own.0 [
   | inl e ↦ inl e
   | inr rest ↦ elim rest [

@@ -1,19 +1,5 @@
 -- Words that ask for help or for the version.
-use Rattle.std.proofs.Common.{◌≡◌, ◌⊎◌, ◌∙◌, ◌++◌, true, refl, ap, subst, sym, inl, inr, List, [], ◌∷◌, Some, append-nil, append_assoc, codes}
-use Rattle.std.specs.List.{fold}
-use Rattle.clap.proofs.OnLiterals.{clap_on_literals}
-use Rattle.clap.specs.Faults.{entered_fault, walk_fault}
-use Rattle.clap.specs.Kinds.{Kinds, or_else}
-use Rattle.clap.specs.Simple.{App, Shape, built, names_of}
-use Rattle.clap.specs.Walk.{Names, Rule, Text, Walk, nothing_held, walk_from, walked}
-use Rattle.clap.specs.Words.{HasKind, fault_of, is_simple_and_free, kind_of}
-use Rattle.clap.specs.declared.error.Error.{Error}
-use Rattle.clap.specs.declared.error.kind.ErrorKind.{ErrorKind}
-use Rattle.clap.specs.declared.error.kind.ErrorKind.TheVariants.{DisplayHelp, DisplayVersion, OutOfMemory}
-use Rattle.bus_command.specs.Commands.{AsksBy, AsksForHelp, AsksForVersion, bus_bench_app}
-use Rattle.bus_command.specs.Faults.{IsFaultBy, IsHelp, IsVersion}
-use Rattle.bus_command.specs.declared.jobs.JobFault.{JobFault}
-use Rattle.bus_command.specs.declared.jobs.JobFault.TheVariants.{Help, Version, Refused, BadName, Memory}
+use Rattle.bus_command.proofs.Common.{◌≡◌, ◌⊎◌, ◌∙◌, ◌++◌, true, refl, ap, subst, sym, inl, inr, List, [], ◌∷◌, Some, append-nil, append_assoc, codes, fold, clap_on_literals, entered_fault, walk_fault, Kinds, or_else, Shape, built, names_of, Names, Rule, Walk, nothing_held, walk_from, walked, HasKind, is_simple_and_free, kind_of, Error, ErrorKind, DisplayHelp, DisplayVersion, OutOfMemory, AsksBy, AsksForHelp, AsksForVersion, bus_bench_app, IsFaultBy, IsHelp, IsVersion, JobFault, Help, Version, Refused, BadName, Memory, App, Text, fault_of}
 
 -- ---- behind a subcommand's name the words are the subcommand's
 

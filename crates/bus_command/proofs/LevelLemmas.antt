@@ -1,15 +1,6 @@
 -- A level of a parse with no fault: its walk stops at a subcommand of its own, and what is required is there.
-use Rattle.std.proofs.Common.{◌≡◌, ◌⊎◌, ◌&&◌, ℕ, Bool, cond, true, false, not, refl, inl, inr, List, [], ◌∷◌, Option, Some, None, is_some, codes}
-use Rattle.std.specs.List.{find, fold}
-use Rattle.std.specs.Option.{option_map}
-use Rattle.std.specs.Str.{bytes_eq}
-use Rattle.clap.specs.Kinds.{Kinds, check_kinds, or_else}
-use Rattle.clap.specs.Lexer.{long_of, short_of}
-use Rattle.clap.specs.Simple.{Shape}
-use Rattle.clap.specs.Walk.{Held, Names, Outcome, Rule, Step, Text, Waiting, Walk, after_flag, after_step, answers_to, arg_by_index, done, finished, idle, long_or_other, next, option, plain_word, settled, short_or_plain, subcommand, subcommand_met, subcommand_or_other, to_positional, trailing, value, waits, walk, walk_from, walked, walked_from, word_met}
-use Rattle.clap.specs.Faults.{check_fault, defaults_fault, settle_fault, level_fault, other_fault, step_fault, turn_fault, walk_fault, word_fault}
+use Rattle.bus_command.proofs.Common.{◌≡◌, ◌⊎◌, ◌&&◌, ℕ, Bool, cond, true, false, not, refl, inl, inr, List, [], ◌∷◌, Option, Some, None, is_some, codes, find, fold, option_map, bytes_eq, Kinds, check_kinds, or_else, long_of, short_of, Shape, Held, Names, Outcome, Rule, Step, Waiting, Walk, after_flag, after_step, answers_to, arg_by_index, done, finished, idle, long_or_other, next, option, plain_word, settled, short_or_plain, subcommand, subcommand_met, subcommand_or_other, to_positional, trailing, value, waits, walk, walk_from, walked, walked_from, word_met, check_fault, defaults_fault, settle_fault, level_fault, other_fault, step_fault, turn_fault, walk_fault, word_fault, OutOfMemory, Text}
 use Rattle.clap.specs.declared.error.kind.ErrorKind.TheVariants as kind
-use Rattle.clap.specs.declared.error.kind.ErrorKind.TheVariants.{OutOfMemory}
 
 -- ---- no fault of the whole is no fault of a part
 
@@ -28,15 +19,15 @@ IsListed [] name = ⊥
 IsListed (s ∷ rest) name = (name ≡ s.0) ⊎ IsListed rest name
 
 -- the name is listed, and calls for no help
-abbrev pub IsOwn : Names → Text → Type 0
-IsOwn names name = IsListed names name × (bytes_eq name (codes "help") ≡ false)
+abbrev pub IsCommandName : Names → Text → Type 0
+IsCommandName names name = IsListed names name × (bytes_eq name (codes "help") ≡ false)
 
 abbrev pub IsOwnStop : Names → Option (Text × List Text) → Type 0
 IsOwnStop names None = Unit {0}
-IsOwnStop names (Some p) = IsOwn names p.0
+IsOwnStop names (Some p) = IsCommandName names p.0
 
 abbrev IsOwnStep : Names → Step → Type 0
-IsOwnStep names (subcommand name) = IsOwn names name
+IsOwnStep names (subcommand name) = IsCommandName names name
 IsOwnStep names _ = Unit {0}
 
 found_listed : (names : Names) (word name : Text) → option_map (λ (s : Text × List Text). s.0) (find (answers_to word) names) ≡ Some name → IsListed names name

@@ -1,5 +1,6 @@
-pub mod LevelLemmas
-pub mod RowLemmas
 pub mod CommandLemmas
-pub mod PlainLemmas
+mod Common
 pub mod HelpLemmas
+pub mod LevelLemmas
+pub mod PlainLemmas
+pub mod RowLemmas

@@ -1,11 +1,5 @@
 -- The words `PROGRAM debug FILE` and `PROGRAM run FILE`.
-use Rattle.std.proofs.Common.{◌≡◌, ◌∙◌, true, false, refl, ap, sym, List, [], ◌∷◌, None, Option, Some, Result, Ok, Err, IfOk, MatchResult, OnErr, codes}
-use Rattle.clap.proofs.OnLiterals.{clap_on_literals}
-use Rattle.clap.specs.Words.{Text, takes}
-use Rattle.bus_command.specs.Commands.{AsksFor, Asked, bus_bench_app, debug, has_bad_name, is_flag, named_job, run, words_of}
-use Rattle.bus_command.specs.declared.jobs.JobFault.{JobFault}
-use Rattle.bus_command.specs.declared.jobs.JobFault.TheVariants.{BadName, Memory}
-use Rattle.bus_command.specs.declared.jobs.Job.{Job}
+use Rattle.bus_command.proofs.Common.{◌≡◌, ◌∙◌, true, false, refl, ap, sym, List, [], ◌∷◌, None, Option, Some, Result, Ok, Err, IfOk, MatchResult, OnErr, codes, clap_on_literals, takes, AsksFor, Asked, bus_bench_app, debug, has_bad_name, is_flag, named_job, run, words_of, JobFault, BadName, Memory, Job, Text}
 
 debug_taken : (program file : Text) → is_flag file ≡ false → takes bus_bench_app (program ∷ codes "debug" ∷ file ∷ []) ≡ true
 unfolding clap_on_literals
@@ -34,11 +28,11 @@ pub asks_run : (words : List Text) (file : Text) → AsksFor (codes "run") words
 asks_run words file asks = (rw asks.1 (run_taken asks.0 file asks.2), rw asks.1 (run_named asks.0 file asks.2))
 
 -- the job is the one that is asked for, and where there is none, memory is wanting
-abbrev pub Gives : Asked → Result Job JobFault → Type 0
-Gives asked r = MatchResult r (λ job. words_of job ≡ asked) (λ fault. fault ≡ Memory)
+abbrev pub AnswersAsked : Asked → Result Job JobFault → Type 0
+AnswersAsked asked r = MatchResult r (λ job. words_of job ≡ asked) (λ fault. fault ≡ Memory)
 
 -- words that name a job with no bad name give it
 pub gives_job : (named : Option Asked) (asked : Asked) (r : Result Job JobFault) → named ≡ Some asked → has_bad_name (Some asked) ≡ false
-    → IfOk r (λ job. named ≡ Some (words_of job)) → OnErr r ((r ≡ Err BadName) × (has_bad_name named ≡ true)) → Gives asked r
+    → IfOk r (λ job. named ≡ Some (words_of job)) → OnErr r ((r ≡ Err BadName) × (has_bad_name named ≡ true)) → AnswersAsked asked r
 gives_job named asked (Ok job) is good made refused = let same : Some (words_of job) ≡ Some asked = sym made ∙ is in cc
 gives_job named asked (Err fault) is good made refused = let bad : true ≡ false = sym refused.1 ∙ (ap has_bad_name is ∙ good) in cc

@@ -1,4 +1,4 @@
--- The command line: what clap reads of it, and the job that the words name.
+-- The command line of `bus_bench`: what clap reads, and the job that the arguments ask for.
 use Rattle.std.specs.Prelude.{◌≡◌, ◌⊎◌, ◌==◌, ◌∷◌, [], ℕ, Bool, true, false, List, Option, None, Some, IfSome, codes, if◌then◌else◌, is_some, option_and_then, option_map, unwrap_or}
 use Rattle.std.specs.Option.{option_map_or}
 use Rattle.std.specs.Str.{bytes_eq}
@@ -16,35 +16,35 @@ use Rattle.bus_command.specs.declared.jobs.Job.TheVariants.{Debug, Run}
 
 -- ---- the command line, as clap reads it
 
--- FILE, which is required
+-- the rule of `FILE`, which is required
 abbrev pub file_rule : Rule
 file_rule = record (new_rule (codes "file")) { value_names = 1; required = true }
 
--- --trace
+-- the rule of `--trace`
 abbrev pub trace_rule : Rule
 trace_rule = record (new_rule (codes "trace")) { long = Some (codes "trace"); action = Some SetTrue }
 
--- a number of 64 bits
+-- the parser of a number of 64 bits
 abbrev pub seed_parser : ValueParser
 seed_parser = parser.Unsigned 0 18446744073709551615
 
--- --seed N
+-- the rule of `--seed N`
 abbrev pub seed_rule : Rule
 seed_rule = record (new_rule (codes "seed")) { long = Some (codes "seed"); value_names = 1; parser = Some seed_parser }
 
--- --test NAME
+-- the rule of `--test NAME`
 abbrev pub test_rule : Rule
 test_rule = record (new_rule (codes "test")) { long = Some (codes "test"); value_names = 1 }
 
--- debug FILE
+-- the subcommand `debug FILE`
 abbrev pub debug_app : App
 debug_app = with_rule (new_app (codes "debug")) file_rule
 
--- run [--trace] [--seed N] [--test NAME] FILE
+-- the subcommand `run [--trace] [--seed N] [--test NAME] FILE`
 abbrev pub run_app : App
 run_app = with_rule (with_rule (with_rule (with_rule (new_app (codes "run")) trace_rule) seed_rule) test_rule) file_rule
 
--- bus_bench, which has a version, as its subcommands then have, and needs one of these
+-- `bus_bench` without subcommands: it has a version, as each subcommand then has, and requires a subcommand
 abbrev pub top_app : App
 top_app = on_top (λ s. record s {
   propagate_version = true;
@@ -52,104 +52,104 @@ top_app = on_top (λ s. record s {
   subcommand_required = true;
 }) (new_app (codes "bus_bench"))
 
--- bus_bench with its subcommands
+-- `bus_bench` with its subcommands
 abbrev pub bus_bench_app : App
 bus_bench_app = with_subcommand (with_subcommand top_app debug_app.top) run_app.top
 
--- ---- the job that the words name
+-- ---- the job that the arguments ask for
 
--- a subcommand, and what is given there
+-- a subcommand with the values that are given for it
 pub data Asked : Type 0 where
   debug : (file : Text) → Asked
   run : (trace : Bool) (seed : ℕ) (test : Option Text) (file : Text) → Asked
 
--- the number that was given for `--seed`, or 1
+-- the number that is given for `--seed`, or 1
 abbrev pub seed_in : List Row → ℕ
 seed_in rows = option_map_or (λ value. digits_value 10 (without_leading_plus value)) (one_of (codes "seed") rows) 1
 
--- whether `--trace` was given, the seed, what was given for `--test`, and the file
+-- a run: whether `--trace` is given, the seed, the text that is given for `--test`, and the file
 abbrev pub run_in : List Row → Text → Asked
 run_in rows = run (is_given (codes "trace") rows) (seed_in rows) (first_of (codes "test") rows)
 
--- what is given to the subcommand of this name
+-- the values that are given for the subcommand with this name; `None` if there is no such subcommand or no file
 abbrev pub asked_in : Text → List Row → Option Asked
 asked_in name rows =
     if bytes_eq name (codes "debug") then option_map debug (first_of (codes "file") rows)
     else if bytes_eq name (codes "run") then option_map (run_in rows) (first_of (codes "file") rows)
     else None
 
--- the job that a subcommand and its arguments ask for, if there is one
+-- the values of a subcommand and its arguments, if there is one
 abbrev pub job_named : Option (Text × List Row) → Option Asked
 job_named = option_and_then (λ p. asked_in p.0 p.1)
 
--- what clap's meaning of the command line makes of the words
+-- what the arguments ask for, as clap's specification reads them; `None` if they ask for no job
 abbrev pub named_job : List Text → Option Asked
 named_job words = job_named (subcommand_of bus_bench_app words)
 
--- a job, as what it was asked by
+-- the subcommand and values of a job
 abbrev pub words_of : Job → Asked
 words_of (Debug file) = debug file.now
 words_of (Run trace seed test file) = run trace seed test file.now
 
--- what is given as the test is no name
+-- whether the text that is given for `--test` is not a name
 abbrev pub is_bad_test : Option Text → Bool
 is_bad_test test = option_map_or (λ text. is_some (name_fault text)) test false
 
--- a run is asked for, and what is given as its test is no name
+-- whether a run is requested and the text that is given for its `--test` is not a name
 abbrev pub has_bad_name : Option Asked → Bool
 has_bad_name (Some (run trace seed test file)) = is_bad_test test
 has_bad_name _ = false
 
--- ---- what was found can be read
+-- ---- what clap has found can be read
 
--- a file was given
+-- a file is given
 abbrev pub HasFile : List Row → Type 0
 HasFile rows = is_some (first_of (codes "file") rows) ≡ true
 
--- what is read for `--trace` says whether it was given
+-- the value that is read for `--trace` says whether it is given
 abbrev pub ReadsTrace : List Row → Type 0
 ReadsTrace rows = unwrap_or (one_of (codes "trace") rows) (codes "false")
     ≡ (if is_given (codes "trace") rows then codes "true" else codes "false")
 
--- what is read for `--seed` is a number of 64 bits
+-- the value that is read for `--seed` is a number of 64 bits
 abbrev pub ReadsSeed : List Row → Type 0
 ReadsSeed rows = IfSome (one_of (codes "seed") rows) (Accepts false seed_parser)
 
--- one of the two subcommands was found, with what it needs
+-- clap has found one of the two subcommands, with the values that it needs
 abbrev pub NamesJob : Option (Text × List Row) → Type 0
 NamesJob None = ⊥
 NamesJob (Some p) = HasFile p.1 × ((p.0 ≡ codes "debug") ⊎ ((p.0 ≡ codes "run") × ReadsTrace p.1 × ReadsSeed p.1))
 
--- ---- the words that a user writes
+-- ---- the arguments that a user writes
 
--- the word begins with a hyphen (45)
+-- whether an argument begins with a hyphen (45)
 abbrev pub is_flag : Text → Bool
 is_flag [] = false
 is_flag (x ∷ rest) = x == 45
 
--- the words are `PROGRAM COMMAND FILE`
+-- the arguments are `PROGRAM COMMAND FILE`, and `FILE` does not begin with a hyphen
 abbrev pub AsksFor : Text → List Text → Text → Type 0
 AsksFor command words file =
     (program : Text) × (words ≡ program ∷ command ∷ file ∷ []) × (is_flag file ≡ false)
 
--- the words are `PROGRAM FLAG ..`, `PROGRAM debug FLAG ..` or `PROGRAM run FLAG ..`
+-- the arguments are `PROGRAM FLAG ..`, `PROGRAM debug FLAG ..` or `PROGRAM run FLAG ..`
 abbrev pub AsksBy : Text → List Text → Type 0
 AsksBy flag words = (program : Text) × (rest : List Text)
     × ((words ≡ program ∷ flag ∷ rest)
     ⊎ ((words ≡ program ∷ codes "debug" ∷ flag ∷ rest) ⊎ (words ≡ program ∷ codes "run" ∷ flag ∷ rest)))
 
--- the words have a flag that asks for help there
+-- the arguments have a flag there that asks for help
 abbrev pub AsksForHelp : List Text → Type 0
 AsksForHelp words = AsksBy (codes "--help") words ⊎ AsksBy (codes "-h") words
 
--- the words have a flag that asks for the version there
+-- the arguments have a flag there that asks for the version
 abbrev pub AsksForVersion : List Text → Type 0
 AsksForVersion words = AsksBy (codes "--version") words ⊎ AsksBy (codes "-V") words
 
--- the job is to debug this file
+-- the job is `debug` for this file
 abbrev pub IsDebugOf : Text → Job → Type 0
 IsDebugOf file job = words_of job ≡ debug file
 
--- the job is to run this file with no trace, the seed 1 and the script's own test
+-- the job is `run` for this file, with no trace, the seed 1 and the script's own test
 abbrev pub IsRunOf : Text → Job → Type 0
 IsRunOf file job = words_of job ≡ run false 1 None file

@@ -1,4 +1,4 @@
--- Why the words of the command line name no job.
+-- The reasons why the arguments of the command line name no job.
 use Rattle.std.specs.Prelude.{◌≡◌, ◌≢◌, []}
 use Rattle.clap.specs.Words.{IsAmong, Kinds, kind_of}
 use Rattle.clap.specs.declared.error.Error.{Error}
@@ -7,11 +7,11 @@ use Rattle.clap.specs.declared.error.kind.ErrorKind.TheVariants.{DisplayHelp, Di
 use Rattle.bus_command.specs.declared.jobs.JobFault.{JobFault}
 use Rattle.bus_command.specs.declared.jobs.JobFault.TheVariants.{Help, Version, Refused, BadName, Memory}
 
--- an error of this kind asks for no text
+-- an error of this kind asks for neither help nor the version
 abbrev pub IsRefusal : ErrorKind → Type 0
 IsRefusal kind = (kind ≢ DisplayHelp) × (kind ≢ DisplayVersion)
 
--- the fault that an error of clap comes to: help, the version and `Memory` are faults of their own
+-- The fault for an error of clap. Help, the version and `Memory` are faults of their own; any other error is `Refused`.
 abbrev pub IsFaultBy : Error → JobFault → Type 0
 IsFaultBy error (Help text) = kind_of error ≡ DisplayHelp
 IsFaultBy error (Version text) = kind_of error ≡ DisplayVersion
@@ -19,8 +19,8 @@ IsFaultBy error (Refused given) = (given ≡ error) × IsRefusal (kind_of error)
 IsFaultBy error BadName = ⊥
 IsFaultBy error Memory = kind_of error ≡ OutOfMemory
 
--- the fault of words to which clap's meaning gives these kinds: help, the version and a refusal are of one of them, and a bad
--- name is told only where there are none
+-- The fault of arguments for which clap's specification gives these kinds of error. `Help`, `Version` and `Refused` have one of these
+-- kinds. `BadName` comes only if there are none, and `Memory` always may.
 abbrev pub IsJobFaultOf : Kinds → JobFault → Type 0
 IsJobFaultOf kinds (Help text) = IsAmong DisplayHelp kinds
 IsJobFaultOf kinds (Version text) = IsAmong DisplayVersion kinds
@@ -28,13 +28,13 @@ IsJobFaultOf kinds (Refused error) = IsAmong (kind_of error) kinds × IsRefusal 
 IsJobFaultOf kinds BadName = kinds ≡ []
 IsJobFaultOf kinds Memory = Unit {0}
 
--- help is given, unless memory was refused
+-- the fault is help, or `Memory` if memory ran out
 abbrev pub IsHelp : JobFault → Type 0
 IsHelp (Help text) = Unit {0}
 IsHelp Memory = Unit {0}
 IsHelp _ = ⊥
 
--- the version is given, unless memory was refused
+-- the fault is the version, or `Memory` if memory ran out
 abbrev pub IsVersion : JobFault → Type 0
 IsVersion (Version text) = Unit {0}
 IsVersion Memory = Unit {0}

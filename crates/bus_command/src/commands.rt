@@ -1,4 +1,4 @@
-//! Reads the command line.
+//! Reads the command line of `bus_bench`.
 ghost use Rattle.std.specs.Prelude.{◌≡◌, ◌⊎◌, ℕ, List, Some, Err, IfOk, IfErr, IsErrAnd, MatchResult, OnOk, OnErr, codes, map, option_map, [], ◌∷◌, false, true};
 ghost use Rattle.clap.specs.Words.{app_of, fault_of, first_of, found_of, new_app, rows_of, rule_of, subcommand_rows_of, takes, with_rule, with_subcommand};
 ghost use Rattle.clap.specs.Takes.{is_given};
@@ -18,29 +18,29 @@ use std::alloc::{AllocError, Global};
 use std::convert::AsStr;
 use uvm_glob::Name;
 
-/// Returns the job that the arguments of the command line ask for. The first argument is the program's name.
+/// Returns the job that the arguments of the command line ask for. The first argument is the name of the program.
 ///
-/// Errors: `Help` or `Version` if the arguments ask for that; `Refused` if the program does not accept them; `BadName` if it accepts them
-/// and the value of `--test` is not a name; `Memory` if memory runs out, at any point.
+/// Errors: `Help` or `Version` if the arguments ask for that; `Refused` if the program does not accept them; `BadName` if the value of
+/// `--test` is not a name and the program accepts the arguments otherwise; `Memory` if out of memory, at any point.
 pub fn job<'a, S: AsStr>(alloc: Global, words: &'a [S]) -> Result<Job<'a>, JobFault>
-    // The job is the one that clap's specification reads from the arguments (`named_job`), which then have no fault (`fault_of`).
+    // The job is the one that clap's specification reads from the arguments (`named_job`). They have no fault (`fault_of`).
     ensures named { IfOk result (λ job. named_job (map S.text words.now) ≡ Some (words_of job)) }
     ensures faultless { OnOk result (fault_of bus_bench_app (map S.text words.now) ≡ []) }
 
     // `Help`, `Version` and `Refused` have a kind that clap's specification gives the arguments (`fault_of`). Arguments that it accepts
-    // (`takes`) lead to none of the three. The kind of `Refused` is neither that of help nor that of the version.
+    // (`takes`) result in none of the three. `Refused` has neither the kind of help nor that of the version.
     ensures refused { IfErr result (IsJobFaultOf (fault_of bus_bench_app (map S.text words.now))) }
     ensures taken { takes bus_bench_app (map S.text words.now) ≡ true
         → OnErr result ((result ≡ Err JobFault.BadName) ⊎ (result ≡ Err JobFault.Memory)) }
 
-    // If help, or the version, is the only kind that it gives the arguments, that is the result, unless memory runs out.
+    // If the arguments have only the kind of help, or only that of the version, that is the result, unless memory runs out.
     ensures help { fault_of bus_bench_app (map S.text words.now) ≡ DisplayHelp ∷ []
         → IsErrAnd result IsHelp }
     ensures version { fault_of bus_bench_app (map S.text words.now) ≡ DisplayVersion ∷ []
         → IsErrAnd result IsVersion }
 
-    // `--help` or `-h` directly after the program's name, or after `debug` or `run`, asks for help, whatever follows. `--version` or `-V`
-    // there asks for the version.
+    // `--help` or `-h` directly after the name of the program, or after `debug` or `run`, asks for help, whatever follows. `--version` or
+    // `-V` there asks for the version.
     ensures plain_help { AsksForHelp (map S.text words.now) → IsErrAnd result IsHelp }
     ensures plain_version { AsksForVersion (map S.text words.now) → IsErrAnd result IsVersion }
 
@@ -62,7 +62,7 @@ pub fn job<'a, S: AsStr>(alloc: Global, words: &'a [S]) -> Result<Job<'a>, JobFa
     }
 }
 
-// Returns the job that the matches name. Errors: `BadName`.
+// Returns the job that the matches name. Errors: `BadName` if the value of `--test` is not a name.
 fn job_of<'a>(matches: &ArgMatches<'a>) -> Result<Job<'a>, JobFault>
     requires { NamesJob (subcommand_rows_of matches.now) }
     ensures named { IfOk result (λ job. job_named (subcommand_rows_of matches.now) ≡ Some (words_of job)) }
@@ -118,7 +118,7 @@ fn is_traced(matches: &ArgMatches<'_>) -> bool
     matches.get_flag("trace")
 }
 
-// Returns the value of `--seed`, 1 if it is omitted.
+// Returns the value of `--seed`, or 1 if it is omitted.
 fn seed_of(matches: &ArgMatches<'_>) -> u64
     requires { ReadsSeed (rows_of (found_of matches.now)) }
     ensures { result ≡ seed_in (rows_of (found_of matches.now)) }
@@ -126,7 +126,7 @@ fn seed_of(matches: &ArgMatches<'_>) -> u64
     matches.get_one("seed").unwrap_or(1)
 }
 
-// Returns the name of the test, if one is given. Errors: `BadName` if it is not a name.
+// Returns the name of the test, or `None` if none is given. Errors: `BadName` if it is not a name.
 fn test_named(text: Option<&str>) -> Result<Option<Name>, JobFault>
     ensures name { IfOk result (λ test. test ≡ option_map (λ t. t.now) text.entry) }
     ensures good { OnOk result (is_bad_test (option_map (λ t. t.now) text.entry) ≡ false) }
@@ -142,7 +142,7 @@ fn test_named(text: Option<&str>) -> Result<Option<Name>, JobFault>
     }
 }
 
-// Returns the whole command line. Errors: out of memory.
+// Creates the whole command line. Errors: out of memory.
 fn command<'a>(alloc: Global) -> Result<Command<'a>, AllocError>
     ensures { IfOk result (λ c. app_of c ≡ bus_bench_app) }
 {
@@ -157,7 +157,7 @@ fn with_run<'a>(alloc: Global, top: Command<'a>) -> Result<Command<'a>, AllocErr
     top.subcommand(run_command(alloc)?)
 }
 
-// `bus_bench` without its subcommands.
+// Creates `bus_bench` without its subcommands.
 fn top_command<'a>(alloc: Global) -> Command<'a>
     ensures { app_of result ≡ top_app }
 {
@@ -168,7 +168,7 @@ fn top_command<'a>(alloc: Global) -> Command<'a>
         .subcommand_required(true)
 }
 
-// `debug FILE`.
+// Creates `debug FILE`. Errors: out of memory.
 fn debug_command<'a>(alloc: Global) -> Result<Command<'a>, AllocError>
     ensures app { IfOk result (λ c. app_of c ≡ debug_app) }
     ensures local { IfOk result (λ c. (out-Command c).has_globals ≡ false) }
@@ -176,7 +176,7 @@ fn debug_command<'a>(alloc: Global) -> Result<Command<'a>, AllocError>
     described(alloc, "debug", ABOUT_DEBUG, EXAMPLE_DEBUG).arg(file_arg(alloc))
 }
 
-// `run [--trace] [--seed N] [--test NAME] FILE`.
+// Creates `run [--trace] [--seed N] [--test NAME] FILE`. Errors: out of memory.
 fn run_command<'a>(alloc: Global) -> Result<Command<'a>, AllocError>
     ensures app { IfOk result (λ c. app_of c ≡ run_app) }
     ensures local { IfOk result (λ c. (out-Command c).has_globals ≡ false) }
@@ -186,7 +186,7 @@ fn run_command<'a>(alloc: Global) -> Result<Command<'a>, AllocError>
         .arg(file_arg(alloc))
 }
 
-// `run [--trace] [--seed N]`.
+// Creates `run [--trace] [--seed N]`. Errors: out of memory.
 fn run_options<'a>(alloc: Global) -> Result<Command<'a>, AllocError>
     ensures app { IfOk result (λ c. app_of c ≡ with_rule (with_rule (new_app (codes "run")) trace_rule) seed_rule) }
     ensures local { IfOk result (λ c. (out-Command c).has_globals ≡ false) }
@@ -196,7 +196,7 @@ fn run_options<'a>(alloc: Global) -> Result<Command<'a>, AllocError>
         .arg(seed_arg(alloc))
 }
 
-// Returns a command whose help begins with its purpose, and ends with some text.
+// Creates a command. Its help begins with `purpose` and ends with `end`.
 fn described<'a>(alloc: Global, name: &'a str, purpose: &'a str, end: &'a str) -> Command<'a>
     ensures app { app_of result ≡ new_app name.entry.now }
     ensures local { (out-Command result).has_globals ≡ false }
@@ -206,7 +206,7 @@ fn described<'a>(alloc: Global, name: &'a str, purpose: &'a str, end: &'a str) -
     Command::new(alloc, name).about(purpose).after_help(end)
 }
 
-// `FILE`.
+// Creates the argument `FILE`.
 fn file_arg<'a>(alloc: Global) -> Arg<'a>
     ensures rule { rule_of result ≡ file_rule }
     ensures local { result.global ≡ false }
@@ -217,7 +217,7 @@ fn file_arg<'a>(alloc: Global) -> Arg<'a>
         .required(true)
 }
 
-// `--trace`.
+// Creates the argument `--trace`.
 fn trace_arg<'a>(alloc: Global) -> Arg<'a>
     ensures rule { rule_of result ≡ trace_rule }
     ensures local { result.global ≡ false }
@@ -228,7 +228,7 @@ fn trace_arg<'a>(alloc: Global) -> Arg<'a>
         .action(ArgAction::SetTrue)
 }
 
-// `--seed N`.
+// Creates the argument `--seed N`.
 fn seed_arg<'a>(alloc: Global) -> Arg<'a>
     ensures rule { rule_of result ≡ seed_rule }
     ensures local { result.global ≡ false }
@@ -240,7 +240,7 @@ fn seed_arg<'a>(alloc: Global) -> Arg<'a>
         .value_parser(value_parser!(u64))
 }
 
-// `--test NAME`.
+// Creates the argument `--test NAME`.
 fn test_arg<'a>(alloc: Global) -> Arg<'a>
     ensures rule { rule_of result ≡ test_rule }
     ensures local { result.global ≡ false }

@@ -1,4 +1,4 @@
-//! What the arguments of the command line ask for.
+//! The jobs that the arguments of the command line can ask for.
 ghost use Rattle.std.specs.Prelude.{◌≡◌, IfOk};
 ghost use Rattle.bus_command.specs.Faults.{IsFaultBy};
 ghost use Rattle.bus_command.specs.declared.jobs.JobFault.TheVariants.{Memory};
@@ -7,14 +7,14 @@ use clap::error::ErrorKind;
 use std::alloc::{AllocError, Global};
 use uvm_glob::Name;
 
-/// What the arguments of the command line ask for.
+/// A job that the arguments of the command line ask for.
 #[derive(Clone, Copy)]
 pub enum Job<'a> {
-    /// `debug FILE`: prints which type the factory makes at each probe of the script in `file`.
+    /// `debug FILE`, which prints which type the factory makes at each probe of the script in `file`.
     Debug {
         file: &'a str,
     },
-    /// `run FILE`: runs the script in `file`. `trace` says whether each entry of the log is printed. `seed` is the seed of the random
+    /// `run FILE`, which runs the script in `file`. `trace` says whether each entry of the log is printed. `seed` is the seed of the random
     /// numbers. `test` replaces the script's own test if it is given.
     Run {
         trace: bool,
@@ -24,16 +24,16 @@ pub enum Job<'a> {
     },
 }
 
-/// Why the arguments of the command line name no job.
+/// The reason why the arguments of the command line name no job.
 #[derive(Drop)]
 pub enum JobFault {
-    /// The arguments ask for help, which is this text.
+    /// The text of the help that the arguments ask for.
     Help(String),
-    /// The arguments ask for the version, which this text gives.
+    /// The text of the version that the arguments ask for.
     Version(String),
-    /// The program does not accept the arguments. The error's `Display` is the text for the user.
+    /// The error for arguments that the program does not accept. Its `Display` is the text for the user.
     Refused(clap::Error),
-    /// The value of `--test` is not a name.
+    /// A value of `--test` that is not a name.
     BadName,
     /// Out of memory.
     Memory,

@@ -1,26 +1,26 @@
-//! The texts of help.
+//! The texts of the help.
 
 // The version of the program.
 pub(crate) const VERSION: &str = "1.0.0";
 
-// What the program is for.
+// The purpose of the program.
 pub(crate) const ABOUT: &str = "Runs UVM-style testbenches from scripts";
 
-// Its purpose, at length.
+// The purpose of the program, in detail.
 pub(crate) const LONG_ABOUT: &str = "Runs UVM-style testbenches (IEEE 1800.2-2020) from scripts.
 
 A script is a TOML document. It declares the types of a testbench and names its test; it may
 override types, set fields and decide how reports are handled. The objects are those of a memory
 bus, which are built in.";
 
-// What `debug` is for.
+// The purpose of `debug`.
 pub(crate) const ABOUT_DEBUG: &str =
     "Prints which type the factory of a testbench makes at each probe of a script";
 
-// What `run` is for.
+// The purpose of `run`.
 pub(crate) const ABOUT_RUN: &str = "Runs the testbench of a script and prints its reports";
 
-// The exit statuses, and where to read on.
+// The exit statuses, and the place of further documentation.
 pub(crate) const STATUSES: &str = "Exit status:
   0  clean
   1  an ERROR or a FATAL was counted, or the run did not finish
@@ -29,7 +29,7 @@ pub(crate) const STATUSES: &str = "Exit status:
 
 Keys of a script and built-in types: docs/REFERENCE.md";
 
-// A run of the memory bus.
+// An example run of the memory bus.
 pub(crate) const EXAMPLE_RUN: &str = "Example, in crates/bus_bench:
 
 $ bus_bench run data/bus.toml
@@ -39,7 +39,7 @@ UVM_INFO @ 4: uvm_test_top.env.sb [SB] 2 seen 0 bad
 
 and then the summary of the reports.";
 
-// A script with a probe, and the line that `debug` prints.
+// An example script with a probe, and the line that `debug` prints.
 pub(crate) const EXAMPLE_DEBUG: &str = "Example, with this script as loud.toml:
 
   version = 1

@@ -1,15 +1,5 @@
 -- The lines of a script's answers, one after another.
-use Rattle.std.proofs.Common.{◌≡◌, ◌≢◌, ℕ, ◌+◌, ◌<◌, ◌≤◌, List, [], ◌∷◌, ◌++◌, length, take, reverse, get_or, map, refl, sym, ap, ◌∙◌, arith}
-use Rattle.std.specs.List.{concat}
-use Rattle.std.proofs.lemmas.List.{append_assoc, append-nil, take-map, take_more, take_all, map-append, length-map}
-use Rattle.uvm_factory.specs.Steps.{made, next_type}
-use Rattle.uvm_factory.specs.Overrides.{StepsReplace}
-use Rattle.uvm_glob.specs.Paths.{path_text}
-use Rattle.uvm_factory.specs.Observed.{Kept, types_of, made_at, next_at}
-use Rattle.script_tables.specs.declared.rows.Probe.{Probe}
-use Rattle.bench_script.specs.Scripts.{ScriptValue}
-use Rattle.bench_script.specs.Factories.{IsFactoryOf}
-use Rattle.bus_jobs.specs.Debugging.{answer_line, made_for, probe_line, debug_lines}
+use Rattle.bus_jobs.proofs.Common.{◌≡◌, ◌≢◌, ℕ, ◌+◌, ◌<◌, ◌≤◌, List, [], ◌∷◌, ◌++◌, length, take, reverse, get_or, map, refl, sym, ap, ◌∙◌, arith, concat, append_assoc, take-map, take_more, take_all, map-append, length-map, made, next_type, StepsReplace, path_text, Representation, types_of, made_at, next_at, Probe, ScriptValue, IsFactoryOf, answer_line, made_for, probe_line, debug_lines, append-nil}
 
 concat-push : (lines : List (List ℕ)) (line : List ℕ) → concat (lines ++ line ∷ []) ≡ concat lines ++ line
 concat-push [] line = append-nil line
@@ -39,14 +29,14 @@ lines-some script i within none =
     absurd (omega arith)
 
 -- the factory of a script makes what the script says
-pub made_for-factory : (script : ScriptValue) (kept : Kept) (probe : Probe) → StepsReplace → IsFactoryOf script kept → made_at kept probe.path probe.type_id ≡ made_for script probe
+pub made_for-factory : (script : ScriptValue) (kept : Representation) (probe : Probe) → StepsReplace → IsFactoryOf script kept → made_at kept probe.path probe.type_id ≡ made_for script probe
 made_for-factory script kept probe replace same =
     ap (λ types. made (next_at kept probe.path) (length types) probe.type_id) same.types
     ∙ (λ i. made (λ from. next_type from (same.steps from probe.path i)) (length script.types) probe.type_id)
     ∙ (λ i. made (λ from. replace (reverse script.overrides) (path_text probe.path) from i) (length script.types) probe.type_id)
 
 -- so its line is the script's
-pub line-factory : (script : ScriptValue) (kept : Kept) (probe : Probe) → StepsReplace → IsFactoryOf script kept → answer_line (types_of kept) probe (made_at kept probe.path probe.type_id) ≡ probe_line script probe
+pub line-factory : (script : ScriptValue) (kept : Representation) (probe : Probe) → StepsReplace → IsFactoryOf script kept → answer_line (types_of kept) probe (made_at kept probe.path probe.type_id) ≡ probe_line script probe
 line-factory script kept probe replace same =
     ap (λ types. answer_line types probe (made_at kept probe.path probe.type_id)) same.types
     ∙ ap (answer_line script.types probe) (made_for-factory script kept probe replace same)

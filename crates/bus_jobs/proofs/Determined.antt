@@ -1,25 +1,7 @@
 -- The runs of a script are determined.
-use Rattle.std.proofs.Common.{◌≡◌, ◌∙◌, ℕ, Bool, List, Option, Some, None, Result, Ok, Err, inl, inr, refl, sym, ap, subst, if◌then◌else◌}
-use Rattle.std.specs.Io.KnownBytes.{Keeps}
-use Rattle.rand_core.specs.Stream.{Stream}
-use Rattle.uvm_object.specs.Objects.{View}
-use Rattle.uvm_acts.specs.declared.acts.Call.{Call}
-use Rattle.script_values.specs.declared.faults.ScriptFault.{ScriptFault}
-use Rattle.bench_script.specs.Scripts.{ScriptValue}
-use Rattle.bench_run.specs.declared.endings.Ending.{Ending}
-use Rattle.bench_run.specs.declared.faults.RunFault.{RunFault}
+use Rattle.bus_jobs.proofs.Common.{◌≡◌, ◌∙◌, ℕ, Bool, List, Option, Some, None, Result, Ok, Err, inl, inr, refl, sym, ap, subst, if◌then◌else◌, Keeps, Stream, View, Call, ScriptFault, ScriptValue, RunResult, RunFault, is_clean, AllowsOneAtMost, EndsAreDetermined, ObjectsAreFunctions, name_of, object_named, says_of, view_of, BusObject, IsDecided, RunsAreDetermined, IsBenchRun, IsBusRun, breakage_of, Memory, LogFull, Output, Unread, Verdict, Clean, Faulty, Refused, Broken}
 use Rattle.bench_run.specs.declared.faults.RunFault.TheVariants as ran
-use Rattle.bench_run.specs.Endings.{is_clean}
-use Rattle.bench_run.specs.Laws.{AllowsOneAtMost, EndsAreDetermined, IsDecided as has_ended}
-use Rattle.bus_objects.specs.Laws.{ObjectsAreFunctions}
-use Rattle.bus_objects.specs.Objects.{name_of, object_named, says_of, view_of}
-use Rattle.bus_objects.specs.declared.objects.BusObject.{BusObject}
-use Rattle.bus_jobs.specs.Laws.{IsDecided, RunsAreDetermined}
-use Rattle.bus_jobs.specs.Runs.{IsBenchRun, IsBusRun}
-use Rattle.bus_jobs.specs.Verdicts.{breakage_of}
-use Rattle.bus_jobs.specs.declared.verdicts.Breakage.TheVariants.{Memory, LogFull, Output, Unread}
-use Rattle.bus_jobs.specs.declared.verdicts.Verdict.{Verdict}
-use Rattle.bus_jobs.specs.declared.verdicts.Verdict.TheVariants.{Clean, Faulty, Refused, Broken}
+use Rattle.bench_run.specs.Laws.{IsDecided as has_ended}
 
 -- each object gives one answer
 functions : ObjectsAreFunctions → (object : BusObject) (before : View) (call : Call) → AllowsOneAtMost (says_of object before call)
@@ -34,14 +16,14 @@ kept held None keeps = absurd keeps
 kept held (Some bytes) keeps = ap Some keeps
 
 -- the verdict on a run that is over, or whose log is full
-verdict_of : Result Ending RunFault → Verdict
-verdict_of (Ok ending) = if is_clean ending then Clean else Faulty
+verdict_of : Result RunResult RunFault → Verdict
+verdict_of (Ok run_result) = if is_clean run_result then Clean else Faulty
 verdict_of (Err fault) = Broken LogFull
 
 -- what became of a run: the script was refused, or it ended
 data Came (asked : Result ScriptValue ScriptFault) (words : Stream) (trace : Bool) (held : List ℕ) (new : Option (List ℕ)) (verdict : Verdict) : Type 0 where
   WasRefused : (fault : ScriptFault) → asked ≡ Err fault → new ≡ Some held → verdict ≡ Refused fault → Came asked words trace held new verdict
-  Ran : (script : ScriptValue) → asked ≡ Ok script → (result : Result Ending RunFault) → has_ended result → IsBusRun words script trace (Some held) new result → verdict ≡ verdict_of result → Came asked words trace held new verdict
+  Ran : (script : ScriptValue) → asked ≡ Ok script → (result : Result RunResult RunFault) → has_ended result → IsBusRun words script trace (Some held) new result → verdict ≡ verdict_of result → Came asked words trace held new verdict
 
 full-fault : (fault : RunFault) → Some LogFull ≡ breakage_of fault → fault ≡ ran.LogFull
 full-fault ran.Memory is = cc

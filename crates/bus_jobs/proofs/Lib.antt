@@ -1,3 +1,3 @@
 pub mod Answering
-pub mod ReadLemmas
+mod Common
 pub mod Determined

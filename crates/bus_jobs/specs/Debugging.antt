@@ -1,4 +1,4 @@
--- What the command `debug` writes of a script, and what a run of it leaves.
+-- The output of the command `debug` for a script.
 use Rattle.std.specs.Prelude.{◌≡◌, ◌≢◌, ℕ, List, [], ◌∷◌, ◌++◌, length, take, reverse, map, Option, Some, None, Result, Ok, Err, IsOk, codes}
 use Rattle.std.specs.List.{concat}
 use Rattle.std.specs.Io.KnownBytes.{Appends, Keeps}
@@ -6,38 +6,38 @@ use Rattle.uvm_glob.specs.Paths.{path_text}
 use Rattle.uvm_factory.specs.Faults.{Types}
 use Rattle.uvm_factory.specs.Overrides.{made_type}
 use Rattle.script_tables.specs.declared.rows.Probe.{Probe}
-use Rattle.script_values.specs.declared.faults.ScriptFault.{ScriptFault}
-use Rattle.script_values.specs.declared.faults.ScriptFault.TheVariants as faults
+use Rattle.script_tables.specs.declared.faults.ScriptFault.{ScriptFault}
+use Rattle.script_tables.specs.declared.faults.ScriptFault.TheVariants as faults
 use Rattle.bench_script.specs.Documents.{script_of_bytes}
 use Rattle.bench_script.specs.Scripts.{ScriptValue}
 use Rattle.bench_history.specs.History.{type_name_or}
-use Rattle.bus_jobs.specs.declared.verdicts.Breakage.{Breakage}
-use Rattle.bus_jobs.specs.declared.verdicts.Breakage.TheVariants.{Memory, LogFull, Output, Unread}
+use Rattle.script_input.specs.declared.breakages.Breakage.{Breakage}
+use Rattle.script_input.specs.declared.breakages.Breakage.TheVariants.{Memory, LogFull, Output, Unread}
 use Rattle.bus_jobs.specs.declared.verdicts.Verdict.{Verdict}
 use Rattle.bus_jobs.specs.declared.verdicts.Verdict.TheVariants.{Clean, Faulty, Refused, Broken}
 
--- which type is made, or that the overrides lead in a loop
+-- the end of a line of `debug`: the name of the type that is made, or that the overrides form a loop
 abbrev pub answer_text : Types → Option ℕ → List ℕ
 answer_text types None = codes " loops"
 answer_text types (Some made) = codes " -> " ++ type_name_or types made []
 
--- `TYPE @ PATH -> MADE` or `TYPE @ PATH loops`
+-- the line of `debug` for a probe: `TYPE @ PATH -> MADE` or `TYPE @ PATH loops`, with its newline (10)
 abbrev pub answer_line : Types → Probe → Option ℕ → List ℕ
 answer_line types probe made = type_name_or types probe.type_id [] ++ codes " @ " ++ path_text probe.path ++ answer_text types made ++ 10 ∷ []
 
--- the type that the script's factory makes for a probe
+-- the type that the script's factory makes for a probe, unless the overrides form a loop
 abbrev pub made_for : ScriptValue → Probe → Option ℕ
 made_for script probe = made_type (reverse script.overrides) (length script.types) (path_text probe.path) probe.type_id
 
--- the line of a probe
+-- the line of `debug` for a probe of a script
 abbrev pub probe_line : ScriptValue → Probe → List ℕ
 probe_line script probe = answer_line script.types probe (made_for script probe)
 
--- what `debug` writes of a script: one line for each probe, in order
+-- the lines of `debug` for a script: one for each probe, in order
 unfoldable pub debug_lines : ScriptValue → List (List ℕ)
 debug_lines script = map (probe_line script) script.probes
 
--- the lines of `debug`, as one text
+-- the whole output of `debug` for a script
 abbrev pub debug_text : ScriptValue → List ℕ
 debug_text script = concat (debug_lines script)
 
@@ -45,19 +45,20 @@ debug_text script = concat (debug_lines script)
 abbrev pub SomeLinesWritten : List (List ℕ) → Option (List ℕ) → Option (List ℕ) → Type 0
 SomeLinesWritten lines old new = (n : ℕ) × Appends old new (concat (take n lines))
 
--- what was written where the answers broke off; only where there is a line can the output fail
+-- What was written before `debug` stopped. After out of memory it is whole lines, from the first on. The output can fail only if there is a
+-- line.
 abbrev pub BrokeOff : List (List ℕ) → Option (List ℕ) → Option (List ℕ) → Breakage → Type 0
 BrokeOff lines old new Memory = SomeLinesWritten lines old new
 BrokeOff lines old new LogFull = ⊥
 BrokeOff lines old new Output = lines ≢ []
 BrokeOff lines old new Unread = ⊥
 
--- the lines of a script that was read
+-- the lines of `debug` for a script that was read; none if it was rejected
 abbrev pub lines_of : Result ScriptValue ScriptFault → List (List ℕ)
 lines_of (Ok script) = debug_lines script
 lines_of (Err fault) = []
 
--- what the verdict on a file's bytes says of the script and of the bytes that the writer holds before and after
+-- what each verdict states of the bytes of a file, and of the bytes that the writer holds before and after
 abbrev pub IsDebugRun : List ℕ → Option (List ℕ) → Option (List ℕ) → Verdict → Type 0
 IsDebugRun bytes old new Clean = IsOk (script_of_bytes bytes) × Appends old new (concat (lines_of (script_of_bytes bytes)))
 IsDebugRun bytes old new Faulty = ⊥

@@ -1,14 +1,14 @@
--- What holds of all runs of the bench.
+-- Laws of all runs of the bus bench.
 use Rattle.std.specs.Prelude.{◌≡◌, ℕ, Bool, List, Option, Some, Result}
 use Rattle.rand_core.specs.Stream.{Stream}
-use Rattle.script_values.specs.declared.faults.ScriptFault.{ScriptFault}
+use Rattle.script_tables.specs.declared.faults.ScriptFault.{ScriptFault}
 use Rattle.bench_script.specs.Scripts.{ScriptValue}
 use Rattle.bus_jobs.specs.Runs.{IsBenchRun}
-use Rattle.bus_jobs.specs.declared.verdicts.Breakage.TheVariants.{Memory, LogFull, Output, Unread}
+use Rattle.script_input.specs.declared.breakages.Breakage.TheVariants.{Memory, LogFull, Output, Unread}
 use Rattle.bus_jobs.specs.declared.verdicts.Verdict.{Verdict}
 use Rattle.bus_jobs.specs.declared.verdicts.Verdict.TheVariants.{Clean, Faulty, Refused, Broken}
 
--- neither memory nor the output was wanting
+-- the verdict is not out of memory, an error of the output, or an error of reading
 abbrev pub IsDecided : Verdict → Type 0
 IsDecided Clean = Unit {0}
 IsDecided Faulty = Unit {0}
@@ -18,7 +18,8 @@ IsDecided (Broken LogFull) = Unit {0}
 IsDecided (Broken Output) = ⊥
 IsDecided (Broken Unread) = ⊥
 
--- two runs of one script on the same words come to one verdict, and write the same
+-- Two runs of one script have the same verdict and the same output if random numbers, trace option and earlier output are the same. Both
+-- verdicts must be `IsDecided`.
 abbrev pub RunsAreDetermined : Type 0
 RunsAreDetermined =
     (asked : Result ScriptValue ScriptFault) (words : Stream) (trace : Bool) (held : List ℕ) (first second : Option (List ℕ)) (one other : Verdict)

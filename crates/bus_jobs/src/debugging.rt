@@ -9,16 +9,17 @@ ghost use Rattle.bench_script.specs.Factories.{IsFactoryOf};
 ghost use Rattle.bus_jobs.specs.Debugging.{IsDebugRun, BrokeOff, answer_line, answer_text, debug_lines};
 ghost use Rattle.bench_history.specs.History.{type_name_or};
 
-use crate::verdicts::{Breakage, Verdict};
+use crate::verdicts::Verdict;
 use bench_run::Sink;
 use bench_script::{Probe, Script, ScriptFault, factory_of};
+use script_input::Breakage;
 use std::alloc::{AllocError, Global};
 use uvm_factory::{Factory, TypeId, Unmade, laws};
 
-/// Writes a line for each probe of the script in `bytes`: which type the factory makes there. The verdict is `Clean`
-/// where all were written, a loop of overrides included; `Refused` where the bytes are no script, with nothing written;
-/// `Broken` where memory was refused (whole lines were written, from the first on), which it is not for bytes that are no text or
-/// too many, or the sink refused a line.
+/// Writes a line for each probe of the script in `bytes`: the type that the factory makes there, or that the overrides form a loop. Returns
+/// `Clean` if all lines were written. Returns `Refused`, with nothing written, if the bytes are not a script. Returns `Broken` if the sink
+/// refuses a line, or if memory runs out. After out of memory the sink holds whole lines, from the first on. Bytes that are not UTF-8, or are
+/// too many, never run out of memory.
 pub fn debug_bench<S: Sink>(alloc: Global, bytes: &[u8], out: &mut S) -> Verdict
     ensures run { IsDebugRun bytes.now (S.contents out.old) (S.contents out.new) result }
     ensures memory { result ≡ Verdict.Broken Breakage.Memory → IsReadable bytes.now }
@@ -34,7 +35,7 @@ pub fn debug_bench<S: Sink>(alloc: Global, bytes: &[u8], out: &mut S) -> Verdict
     }
 }
 
-// Writes the line of each probe of a script.
+// Writes the line of each probe of a script. Errors: `Output` if the sink refuses a line; `Memory` (out of memory), after whole lines.
 fn answer<S: Sink>(alloc: Global, script: &Script, out: &mut S) -> Result<(), Breakage>
     ensures ok { OnOk result (Appends (S.contents out.old) (S.contents out.new) (concat (debug_lines script.now))) }
     ensures err { IfErr result (BrokeOff (debug_lines script.now) (S.contents out.old) (S.contents out.new)) }
@@ -46,7 +47,7 @@ fn answer<S: Sink>(alloc: Global, script: &Script, out: &mut S) -> Result<(), Br
     }
 }
 
-// Writes the line of each probe, by the factory of the script.
+// Writes the line of each probe, by the factory of the script. Errors: as in `answer`.
 fn write_answers<S: Sink>(
     alloc: Global,
     factory: &Factory,
@@ -58,7 +59,7 @@ fn write_answers<S: Sink>(
     ensures err { IfErr result (BrokeOff (debug_lines script.now) (S.contents out.old) (S.contents out.new)) }
     ensures output { result ≡ Err Breakage.Output → S.refuses out.old }
 {
-    // The type that a step leads to is the one that takes the place.
+    // For the proof: the type that a step leads to is the one that replaces the type before it.
     laws::steps_replace();
     let probes = script.probes();
     for probe in probes {
@@ -72,7 +73,7 @@ fn write_answers<S: Sink>(
     Ok(())
 }
 
-// The line of a probe.
+// Returns the line of a probe. Errors: out of memory.
 fn line_of(alloc: Global, factory: &Factory, probe: &Probe) -> Result<Vec<u8>, AllocError>
     requires { probe.now.type_id < length (types_of factory.now) }
     ensures { IfOk result (λ line. line.items ≡ answer_line (types_of factory.now) probe.now (made_at factory.now probe.now.path probe.now.type_id)) }
@@ -93,7 +94,7 @@ fn line_of(alloc: Global, factory: &Factory, probe: &Probe) -> Result<Vec<u8>, A
     Ok(line)
 }
 
-// Appends the name of a type.
+// Appends the name of a type; nothing if there is no such type. Errors: out of memory.
 fn push_name(factory: &Factory, type_id: TypeId, line: &mut Vec<u8>) -> Result<(), AllocError>
     ensures { OnOk result (line.new.items ≡ line.old.items ++ type_name_or (types_of factory.now) type_id []) }
 {

@@ -1,13 +1,13 @@
-//! What holds of all runs of the bench, in words of the definitions. The functions do nothing that shows; their contracts are the laws
-//! (`specs/Laws.antt`).
+//! Laws of all runs of the bus bench (`specs/Laws.antt`). These functions have no run-time effect: call one where a proof needs its
+//! `ensures`.
 
 ghost use Rattle.bus_jobs.specs.Laws.{RunsAreDetermined};
 
 use bench_run::laws as runs;
 use bus_objects::{BusObject, laws as objects};
 
-/// The bytes of a script, the seed, the test and whether a trace is asked for determine the verdict on a run and all that it writes, unless
-/// memory was refused or a write failed.
+/// States a law: the script, the test, the random numbers and the trace option determine the verdict and the output. The law holds for every
+/// run, except if memory runs out or a write fails.
 pub fn runs_are_determined()
     ensures { RunsAreDetermined }
 {

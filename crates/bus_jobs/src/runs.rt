@@ -2,28 +2,29 @@
 
 ghost use Rattle.std.specs.Prelude.{◌≡◌, ◌≢◌, IfErr, IfOk, IsSome, MatchResult, Ok, Err, if◌then◌else◌, option_copied};
 ghost use Rattle.bench_script.specs.Documents.{IsReadable};
-ghost use Rattle.bench_run.specs.Endings.{is_clean};
+ghost use Rattle.bench_run.specs.RunResults.{is_clean};
 ghost use Rattle.bench_run.specs.Texts.{TookSome, TookTexts};
-ghost use Rattle.bus_jobs.specs.Runs.{GivesNamed, IsBenchRun, IsBusRun, script_to_run, words_of_seed};
+ghost use Rattle.bus_jobs.specs.Runs.{GivesNamed, IsBenchRun, IsBusRun, script_to_run};
+ghost use Rattle.script_input.specs.Scripts.{words_of_seed};
 
-use crate::verdicts::{Breakage, Verdict};
-use bench_run::{Ending, RunFault, Sink, run_script};
+use crate::verdicts::Verdict;
+use bench_run::{RunFault, RunResult, Sink, run_script};
 use bench_script::{Script, ScriptFault};
 use bus_objects::BusObject;
 use rand_core::{Rng, SeedableRng};
 use rand_pcg::Pcg64;
+use script_input::{Breakage, choose_test};
 use std::alloc::{AllocError, Global};
 use uvm_glob::Name;
 
-/// Runs the script in `bytes`, with `test` in place of its own test where it is given, on the words of `Pcg64` from the seed.
-/// As each entry of the log is made, its line is written where `trace` asks for it, and the line of its report where that is
-/// displayed; once the run is over the summary of the reports is written. Objects of types that the bench does not have are
-/// declined, and each object is given back at the end.
+/// Runs the script in `bytes`, with the random numbers of `Pcg64` from the seed. If `test` is given, it replaces the script's own test. After
+/// each entry of the log, its line is written if `trace` is on, and the line of its report if that is displayed. After the last entry, the
+/// summary of the reports is written. An object of a type that the bench does not have is declined. Each object is dropped, at the latest at
+/// the end.
 ///
-/// The verdict is `Clean` where the run finished and neither an ERROR nor a FATAL was counted, `Faulty` where it ended otherwise,
-/// and `Refused` where the bytes are no script or it has no such test (`Missing` where it has none at all), with nothing
-/// written. It is `Broken` where the log is full, memory was refused, or the sink refused a text; memory is not refused for bytes that are
-/// no text or too many.
+/// Returns `Clean` if the run finished and no ERROR or FATAL was counted, and `Faulty` if it ended otherwise. Returns `Refused`, with nothing
+/// written, if the bytes are not a script, or the script has no such test. The reason is `Missing` if it has no test at all. Returns `Broken`
+/// if the log is full, the sink refuses a text, or memory runs out. Bytes that are not UTF-8, or are too many, never run out of memory.
 pub fn run_bench<S: Sink>(
     alloc: Global,
     bytes: &[u8],
@@ -41,7 +42,7 @@ pub fn run_bench<S: Sink>(
         Ok(script) => {
             let mut words = Pcg64::seed_from_u64(seed);
             match run_objects(alloc, script, &mut words, trace, out) {
-                Ok(ending) => verdict_on(&ending),
+                Ok(run_result) => verdict_on(&run_result),
                 Err(fault) => Verdict::Broken(Breakage::of(fault)),
             }
         }
@@ -50,33 +51,26 @@ pub fn run_bench<S: Sink>(
     }
 }
 
-// The verdict on a run that is over.
-fn verdict_on(ending: &Ending) -> Verdict
-    ensures { result ≡ (if is_clean ending.now then Verdict.Clean else Verdict.Faulty) }
+// Returns the verdict on a run that has ended.
+fn verdict_on(run_result: &RunResult) -> Verdict
+    ensures { result ≡ (if is_clean run_result.now then Verdict.Clean else Verdict.Faulty) }
 {
-    if ending.is_clean() {
+    if run_result.is_clean() {
         Verdict::Clean
     } else {
         Verdict::Faulty
     }
 }
 
-// The script to run.
+// Returns the script to run. If `test` is given, it replaces the script's own test. Errors: the first error of the script; `UnknownType` or
+// `WrongKind` if the given test is not a declared component type; `Missing` if there is no test; `Memory` (out of memory).
 fn script_to_run(alloc: Global, bytes: &[u8], test: Option<&Name>) -> Result<Script, ScriptFault>
     ensures ok { IfOk result (λ script. script_to_run bytes.now (option_copied test.entry) ≡ Ok script) }
     ensures tested { IfOk result (λ script. IsSome script.test) }
     ensures err { IfErr result (λ fault. fault ≢ ScriptFault.Memory → script_to_run bytes.now (option_copied test.entry) ≡ Err fault) }
     ensures readable { MatchResult result (λ _. IsReadable bytes.now) (λ fault. fault ≡ ScriptFault.Memory → IsReadable bytes.now) }
 {
-    let script = bench_script::read(alloc, bytes)?;
-    let script = match test {
-        Some(name) => script.with_test(name)?,
-        None => script,
-    };
-    match script.test() {
-        Some(_) => Ok(script),
-        None => Err(ScriptFault::Missing),
-    }
+    choose_test(bench_script::read(alloc, bytes)?, test)
 }
 
 // Runs a script with the objects of the bench.
@@ -86,7 +80,7 @@ fn run_objects<R: Rng, S: Sink>(
     words: &mut R,
     trace: bool,
     out: &mut S,
-) -> Result<Ending, RunFault>
+) -> Result<RunResult, RunFault>
     requires { IsSome script.test }
     ensures run { IsBusRun (R.stream words.old) script trace (S.contents out.old) (S.contents out.new) result }
     ensures texts { TookTexts script (S.taken out.old) (S.taken out.new) result }

@@ -1,9 +1,5 @@
 -- What an object does is a function of what it shows and of the call.
-use Rattle.std.proofs.Common.{◌≡◌, List, refl}
-use Rattle.uvm_object.specs.Objects.{View}
-use Rattle.uvm_acts.specs.declared.acts.Act.{Act}
-use Rattle.bus_objects.specs.declared.objects.BusObject.TheVariants.{Idle}
-use Rattle.bus_objects.specs.Laws.{AllowsOne, ObjectsAreFunctions}
+use Rattle.bus_objects.proofs.Common.{◌≡◌, List, refl, View, Act, Idle, AllowsOne, ObjectsAreFunctions}
 
 -- an answer and a view that are given are the ones that are allowed
 given : (acts : List Act) (after : View) → AllowsOne (λ others next. (others ≡ acts) × (next ≡ after))

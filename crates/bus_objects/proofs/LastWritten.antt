@@ -1,16 +1,5 @@
 -- After a write its data is the word at its address, and every other word stays.
-use Rattle.std.proofs.Common.{◌≡◌, Bool, true, false, cond, List, [], ◌∷◌, Option, Some, refl, ap, ◌∙◌}
-use Rattle.std.specs.Prelude.{ℤ, pos, ◌&&◌, unwrap_or}
-use Rattle.std.specs.Ordering.{int_cmp, is_eq, match_ordering, ordering_reverse}
-use Rattle.std.specs.declared.cmp.Ordering.{Ordering}
-use Rattle.std.specs.declared.cmp.Ordering.TheVariants.{Less, Equal, Greater}
-use Rattle.std.specs.Cmp.{IsTotalOrder}
-use Rattle.std.specs.BTreeMap.{insert_entry, is_at}
-use Rattle.std.specs.Map.{lookup}
-use Rattle.std.proofs.lemmas.Cmp.{alike_right, int_cmp_total}
-use Rattle.bus_objects.specs.Items.{address_of, data_of, is_write}
-use Rattle.bus_objects.specs.Words.{Words, word_at}
-use Rattle.bus_objects.specs.Laws.{LastWrittenIsFound}
+use Rattle.bus_objects.proofs.Common.{◌≡◌, Bool, true, false, cond, List, [], ◌∷◌, Option, Some, refl, ap, ◌∙◌, ℤ, pos, ◌&&◌, unwrap_or, int_cmp, is_eq, match_ordering, ordering_reverse, Ordering, Less, Equal, Greater, IsTotalOrder, insert_entry, is_at, lookup, alike_right, int_cmp_total, address_of, data_of, is_write, Words, word_at, LastWrittenIsFound}
 
 module _ {A : Type 0} where
   same-test : (test : Bool) (x y z : A) → cond test x z ≡ cond test x (cond test y z)

@@ -1,3 +1,4 @@
+mod Common
 pub mod Functions
 pub mod LastWritten
 pub mod Printed

@@ -1,18 +1,5 @@
 -- What the objects report may stand in a report.
-use Rattle.std.proofs.Common.{FitsSigned, lit≤, w64, ◌≡◌, ℕ, suc, ◌+◌, ◌^◌, ◌<◌, ◌≤◌, ◌%◌, true, false, None, List, [], ◌∷◌, ◌++◌, length, length-append, refl, ◌∙◌, arith}
-use Rattle.std.specs.Prelude.{ℤ, pos, negsuc, codes, if◌then◌else◌}
-use Rattle.std.specs.Int.Signed.{mag}
-use Rattle.std.specs.Fmt.{decimal, signed_decimal}
-use Rattle.std.specs.List.{list_all}
-use Rattle.std.proofs.lemmas.Bool.Decides.{nat_tests}
-use Rattle.std.proofs.lemmas.Fmt.{decimal_by_steps, length-decimal-le, length_signed_le}
-use Rattle.std.proofs.lemmas.List.Folds.{list_all-append}
-use Rattle.uvm_report.specs.Texts.{is_text_byte, text_fault}
-use Rattle.uvm_tlm.specs.declared.items.Item.{Item}
-use Rattle.bus_objects.specs.declared.bus_scoreboard.Score.{Score}
-use Rattle.bus_objects.specs.Items.{address_of, data_of, is_write, operation_text, transfer_text}
-use Rattle.bus_objects.specs.Words.{Words, word_at}
-use Rattle.bus_objects.specs.BusScoreboard.{mismatch_text, score_text}
+use Rattle.bus_objects.proofs.Common.{FitsSigned, lit≤, w64, ◌≡◌, ℕ, suc, ◌+◌, ◌^◌, ◌<◌, ◌≤◌, ◌%◌, true, false, None, List, [], ◌∷◌, ◌++◌, length, length-append, refl, ◌∙◌, arith, ℤ, pos, negsuc, codes, if◌then◌else◌, mag, decimal, signed_decimal, list_all, nat_tests, decimal_by_steps, length-decimal-le, length_signed_le, list_all-append, is_text_byte, text_fault, Item, Score, address_of, data_of, is_write, operation_text, transfer_text, Words, word_at, mismatch_text, score_text}
 
 -- bytes that may stand in a text, so many of them at most
 pub record IsPrinted (bytes : List ℕ) (most : ℕ) : Type 0 where

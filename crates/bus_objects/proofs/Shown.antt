@@ -1,15 +1,5 @@
 -- What an object shows determines what it keeps.
-use Rattle.std.proofs.Common.{◌≡◌, ℕ, ◌+◌, ◌*◌, ◌/◌, ◌%◌, List, [], ◌∷◌, ◌++◌, drop, length, map, take, refl, sym, ap, ◌∙◌, arith}
-use Rattle.std.specs.Prelude.{ℤ, pos, negsuc}
-use Rattle.std.proofs.lemmas.List.{length-map}
-use Rattle.std.proofs.Math.Seq.{drop-append_seam, take-append_seam}
-use Rattle.uvm_tlm.specs.declared.items.Item.{Item}
-use Rattle.bus_objects.specs.declared.memory.Memory.{Memory}
-use Rattle.bus_objects.specs.declared.bus_scoreboard.Score.{Score}
-use Rattle.bus_objects.specs.Words.{Words, integer_of, number_of, words_of, words_view}
-use Rattle.bus_objects.specs.Memory.{memory_of, memory_view}
-use Rattle.bus_objects.specs.BusScoreboard.{score_of, score_view}
-use Rattle.bus_objects.specs.SlowDriver.{item_of, item_view}
+use Rattle.bus_objects.proofs.Common.{◌≡◌, ℕ, ◌+◌, ◌*◌, ◌/◌, ◌%◌, List, [], ◌∷◌, ◌++◌, drop, length, map, take, refl, sym, ap, ◌∙◌, arith, ℤ, pos, negsuc, length-map, drop-append_seam, take-append_seam, Item, Memory, Score, Words, integer_of, number_of, words_of, words_view, memory_of, memory_view, score_of, score_view, item_of, item_view}
 
 integer_of-even : (n : ℕ) → integer_of (2 * n) ≡ pos n
 integer_of-even n =

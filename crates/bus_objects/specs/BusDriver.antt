@@ -1,4 +1,4 @@
--- What an object of the type `bus_driver` is: a driver that puts an item as soon as it comes. It stays as it is.
+-- The type `bus_driver`: a driver that puts each item when it comes. It has no state.
 use Rattle.std.specs.Prelude.{◌≡◌, ℕ, List, [], ◌∷◌, Option, Some, None, codes, if◌then◌else◌, bytes_eq}
 use Rattle.uvm_object.specs.Objects.{View}
 use Rattle.uvm_acts.specs.declared.acts.Call.{Call}
@@ -7,11 +7,11 @@ use Rattle.uvm_acts.specs.declared.acts.Act.{Act}
 use Rattle.bus_objects.specs.declared.bus_driver.BusDriver.{BusDriver}
 use Rattle.bus_objects.specs.Driver.{driver_acts, put_act}
 
--- it shows nothing of itself
+-- the view of a `bus_driver`, which is empty
 abbrev pub bus_driver_view : BusDriver → View
 bus_driver_view bus_driver = []
 
--- what a driver answers to a call: it puts each item that comes
+-- the answer of a driver to a call: it puts each item that comes, and otherwise answers as every driver of the bus
 abbrev pub bus_driver_acts : Call → List Act
 bus_driver_acts (NextItem port (Some item)) = put_act item ∷ []
 bus_driver_acts call = driver_acts call
@@ -20,6 +20,6 @@ bus_driver_acts call = driver_acts call
 abbrev pub BusDriverSays : View → Call → List Act → View → Type 0
 BusDriverSays before call acts after = (acts ≡ bus_driver_acts call) × (after ≡ before)
 
--- the new object of the type of this name, if it is that type
+-- a new object if the name is `bus_driver`; `None` otherwise
 abbrev pub bus_driver_named : List ℕ → Option BusDriver
 bus_driver_named name = if bytes_eq name (codes "bus_driver") then Some (record { type_name = name }) else None

@@ -1,4 +1,4 @@
--- What an object of the type `bus_env` is: it creates the parts of the bus, connects them through two FIFOs, and stays as it is.
+-- The type `bus_env`: it creates the parts of the bus, and connects them through two FIFOs. It has no state.
 use Rattle.std.specs.Prelude.{◌≡◌, ℕ, List, [], ◌∷◌, Option, Some, None, codes, if◌then◌else◌, bytes_eq}
 use Rattle.uvm_phase.specs.declared.phases.Phase.TheVariants as phase
 use Rattle.uvm_object.specs.Objects.{View}
@@ -10,11 +10,11 @@ use Rattle.uvm_acts.specs.declared.acts.Act.TheVariants.{Create, Add}
 use Rattle.bus_objects.specs.declared.bus_env.BusEnv.{BusEnv}
 use Rattle.uvm_acts.specs.Answers.{connecting}
 
--- it shows nothing of itself
+-- the view of a `bus_env`, which is empty
 abbrev pub bus_env_view : BusEnv → View
 bus_env_view bus_env = []
 
--- to create the parts, and to add the FIFOs for requests and responses
+-- the actions that create the parts, and add the FIFOs for requests and responses
 abbrev pub parts : List Act
 parts =
     Create (codes "bus_agent") (codes "agent")
@@ -24,7 +24,7 @@ parts =
     ∷ Add (codes "rspf") (Fifo 1)
     ∷ []
 
--- to connect the driver and the memory to the FIFOs, and the monitor to the scoreboard
+-- the actions that connect the driver and the memory to the FIFOs, and the monitor to the scoreboard
 abbrev pub connections : List Act
 connections =
     connecting (codes "agent.drv.req") (codes "reqf")
@@ -34,7 +34,7 @@ connections =
     ∷ connecting (codes "agent.mon.ap") (codes "sb.seen")
     ∷ []
 
--- what an environment answers to a call: in build it adds its parts, and in connect it connects them
+-- the answer of an environment to a call: it adds its parts in `build`, and connects them in `connect`
 abbrev pub bus_env_acts : Call → List Act
 bus_env_acts (Phase phase.Build) = parts
 bus_env_acts (Phase phase.Connect) = connections
@@ -44,6 +44,6 @@ bus_env_acts call = []
 abbrev pub BusEnvSays : View → Call → List Act → View → Type 0
 BusEnvSays before call acts after = (acts ≡ bus_env_acts call) × (after ≡ before)
 
--- the new object of the type of this name, if it is that type
+-- a new object if the name is `bus_env`; `None` otherwise
 abbrev pub bus_env_named : List ℕ → Option BusEnv
 bus_env_named name = if bytes_eq name (codes "bus_env") then Some (record { type_name = name }) else None

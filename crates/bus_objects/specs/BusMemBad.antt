@@ -1,4 +1,4 @@
--- What an object of the type `bus_mem_bad` is: a memory whose reads give the stored word with its lowest bit flipped.
+-- The type `bus_mem_bad`: a memory whose reads give the stored word with its lowest bit flipped.
 use Rattle.std.specs.Prelude.{ℕ, List, Option, Some, None, codes, if◌then◌else◌, bytes_eq}
 use Rattle.uvm_object.specs.Objects.{View}
 use Rattle.uvm_acts.specs.declared.acts.Call.{Call}
@@ -7,7 +7,7 @@ use Rattle.bus_objects.specs.declared.bus_mem_bad.BusMemBad.{BusMemBad}
 use Rattle.bus_objects.specs.declared.memory.Reading.TheVariants.{Flipped}
 use Rattle.bus_objects.specs.Memory.{MemorySays, memory_view, new_memory}
 
--- it shows its memory
+-- the view of a `bus_mem_bad`: the view of its memory
 abbrev pub bus_mem_bad_view : BusMemBad → View
 bus_mem_bad_view bus_mem_bad = memory_view bus_mem_bad.memory
 
@@ -15,10 +15,10 @@ bus_mem_bad_view bus_mem_bad = memory_view bus_mem_bad.memory
 abbrev pub BusMemBadSays : View → Call → List Act → View → Type 0
 BusMemBadSays = MemorySays Flipped
 
--- the new object of the type of this name
+-- the new object of type `bus_mem_bad`, with this type name
 abbrev pub new_bus_mem_bad : List ℕ → BusMemBad
 new_bus_mem_bad name = record { type_name = name; memory = new_memory }
 
--- it, if the name is that of its type
+-- a new object if the name is `bus_mem_bad`; `None` otherwise
 abbrev pub bus_mem_bad_named : List ℕ → Option BusMemBad
 bus_mem_bad_named name = if bytes_eq name (codes "bus_mem_bad") then Some (new_bus_mem_bad name) else None

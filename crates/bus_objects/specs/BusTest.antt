@@ -1,4 +1,4 @@
--- What an object of the type `bus_test` is: it creates the environment, and in run starts a sequence under an objection; it stays as it is.
+-- The type `bus_test`: it creates the environment, and starts a sequence in `run` under an objection. It has no state.
 use Rattle.std.specs.Prelude.{◌≡◌, ℕ, List, [], ◌∷◌, Option, Some, None, codes, if◌then◌else◌, bytes_eq}
 use Rattle.uvm_acts.specs.Answers.{starting}
 use Rattle.uvm_phase.specs.declared.phases.Phase.TheVariants.{Build, Run}
@@ -9,15 +9,15 @@ use Rattle.uvm_acts.specs.declared.acts.Act.{Act}
 use Rattle.uvm_acts.specs.declared.acts.Act.TheVariants.{Create, RaiseObjection, DropObjection}
 use Rattle.bus_objects.specs.declared.bus_test.BusTest.{BusTest}
 
--- it shows nothing of itself
+-- the view of a `bus_test`, which is empty
 abbrev pub bus_test_view : BusTest → View
 bus_test_view bus_test = []
 
--- to start the sequence, with no priority of its own
+-- the action that starts the sequence, with no priority given
 abbrev pub start_act : Act
 start_act = starting (codes "seq_smoke") (codes "seq") (codes "env.agent.sqr") None
 
--- what a test answers to a call: it creates the environment, and in run starts a sequence under an objection
+-- the answer of a test to a call: it creates the environment, and in `run` starts a sequence under an objection
 abbrev pub bus_test_acts : Call → List Act
 bus_test_acts (Phase Build) = Create (codes "bus_env") (codes "env") ∷ []
 bus_test_acts (Phase Run) = RaiseObjection 1 ∷ start_act ∷ []
@@ -28,6 +28,6 @@ bus_test_acts call = []
 abbrev pub BusTestSays : View → Call → List Act → View → Type 0
 BusTestSays before call acts after = (acts ≡ bus_test_acts call) × (after ≡ before)
 
--- the new object of the type of this name, if it is that type
+-- a new object if the name is `bus_test`; `None` otherwise
 abbrev pub bus_test_named : List ℕ → Option BusTest
 bus_test_named name = if bytes_eq name (codes "bus_test") then Some (record { type_name = name }) else None

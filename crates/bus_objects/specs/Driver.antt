@@ -1,4 +1,4 @@
--- What the drivers of the bus share: they differ in when they put an item that comes.
+-- The answers that the drivers of the bus share. The drivers differ in when they put an item that comes.
 use Rattle.std.specs.Prelude.{List, [], ◌∷◌, Some, codes}
 use Rattle.uvm_phase.specs.declared.phases.Phase.TheVariants.{Build, Run}
 use Rattle.uvm_sequencer.specs.declared.drivers.How.TheVariants.{Next}
@@ -10,7 +10,7 @@ use Rattle.uvm_acts.specs.declared.acts.Call.TheVariants.{Phase, Stored, Taken}
 use Rattle.uvm_acts.specs.declared.acts.Act.{Act}
 use Rattle.uvm_acts.specs.declared.acts.Act.TheVariants.{Add, Ask, ItemDone, Put, Take, Write}
 
--- to add the four ports of a driver
+-- the actions that add the four ports of a driver
 abbrev pub ports : List Act
 ports =
     Add (codes "sqp") (Port kind.Seq)
@@ -19,19 +19,19 @@ ports =
     ∷ Add (codes "ap") (Port kind.Analysis)
     ∷ []
 
--- to ask for the next item
+-- the action that requests the next item
 abbrev pub ask_act : Act
 ask_act = Ask (codes "sqp") Next
 
--- to put an item on its way
+-- the action that puts an item through the port `req`
 abbrev pub put_act : Item → Act
 put_act item = Put (codes "req") item
 
--- the result of an item: it is written, and responded with
+-- the actions for the result of an item: it is written to `ap`, it is the response of `item_done`, and the next item is requested
 abbrev pub result_acts : Item → List Act
 result_acts item = Write (codes "ap") item ∷ ItemDone (codes "sqp") (Some item) ∷ ask_act ∷ []
 
--- the answers that both drivers share: they add ports, ask for items, and write and return the result of each item
+-- the answers that both drivers share: they add ports, request items, and write and return the result of each item
 abbrev pub driver_acts : Call → List Act
 driver_acts (Phase Build) = ports
 driver_acts (Phase Run) = ask_act ∷ []

@@ -4,11 +4,11 @@ use Rattle.std.specs.Ordering.{int_eq}
 use Rattle.std.specs.Fmt.{signed_decimal}
 use Rattle.uvm_tlm.specs.declared.items.Item.{Item}
 
--- the word at a place of an item, from 0; 0 if there is none
+-- the integer at a place of an item, from 0; 0 if there is no such place
 abbrev pub word_of : Item → ℕ → ℤ
 word_of item place = slice_index_or item.0 place (pos 0)
 
--- the operation of an item is 1, so it writes
+-- whether an item writes: its operation is 1
 abbrev pub is_write : Item → Bool
 is_write item = int_eq (word_of item 0) (pos 1)
 
@@ -28,7 +28,7 @@ write_item address word = record { 0 = pos 1 ∷ pos address ∷ pos word ∷ po
 abbrev pub read_item : ℕ → Item
 read_item address = record { 0 = pos 0 ∷ pos address ∷ pos 0 ∷ pos 0 ∷ [] }
 
--- the item with other data
+-- the item with this data
 abbrev pub with_data : Item → ℤ → Item
 with_data item word = record { 0 = slice_set item.0 2 word }
 
@@ -36,6 +36,6 @@ with_data item word = record { 0 = slice_set item.0 2 word }
 abbrev pub operation_text : Item → List ℕ
 operation_text item = if is_write item then codes "write" else codes "read"
 
--- an item as text, as `write 16 -5`
+-- an item as text: operation, address and data, for example `write 16 -5`
 unfoldable pub transfer_text : Item → List ℕ
 transfer_text item = operation_text item ++ 32 ∷ (signed_decimal (address_of item) ++ 32 ∷ signed_decimal (data_of item))

@@ -1,4 +1,4 @@
--- What an object of the bench is, of whichever type.
+-- The built-in objects of all types.
 use Rattle.std.specs.Prelude.{ℕ, List, [], ◌∷◌, Option, option_map}
 use Rattle.uvm_glob.specs.Lists.{first_given}
 use Rattle.uvm_object.specs.Objects.{Says, View}
@@ -22,7 +22,8 @@ use Rattle.bus_objects.specs.Spinner.{SpinnerSays, spinner_named, spinner_view}
 use Rattle.bus_objects.specs.declared.objects.BusObject.{BusObject}
 use Rattle.bus_objects.specs.declared.objects.BusObject.TheVariants.{BusAgent, BusDriver, BusEnv, BusMem, BusMemBad, BusMonitor, BusScoreboard, BusTest, Idle, Loud, Pulse, SeqBurst, SeqPair, SeqSmoke, Sleeper, SlowDriver, Spinner}
 
--- the new object of the type of this name, if it is that of an object that stands behind a pointer, since it keeps more than a name and a byte
+-- The new object of the type with this name, if its objects move to the heap at their first call. These have more state than a name and a
+-- byte.
 abbrev pub large_named : List ℕ → Option BusObject
 large_named name =
     first_given (
@@ -33,7 +34,7 @@ large_named name =
     ∷ option_map SlowDriver (slow_driver_named name)
     ∷ [])
 
--- the new object of the type of this name, if it is that of a component of the bus that keeps nothing
+-- the new object of the type with this name, if it is the type of a component of the bus without state
 abbrev pub part_named : List ℕ → Option BusObject
 part_named name =
     first_given (
@@ -44,7 +45,7 @@ part_named name =
     ∷ option_map BusTest (bus_test_named name)
     ∷ [])
 
--- the new object of the type of this name, if it is that of a sequence
+-- the new object of the type with this name, if it is the type of a sequence
 abbrev pub sequence_named : List ℕ → Option BusObject
 sequence_named name =
     first_given (
@@ -53,7 +54,7 @@ sequence_named name =
     ∷ option_map SeqSmoke (seq_smoke_named name)
     ∷ [])
 
--- the new object of the type of this name, if it is that of an object that stands in place
+-- the new object of the type with this name, if its objects are held in place
 abbrev pub small_named : List ℕ → Option BusObject
 small_named name =
     first_given (
@@ -65,11 +66,11 @@ small_named name =
     ∷ option_map Spinner (spinner_named name)
     ∷ [])
 
--- the new object of the type of this name, if the bench has the type
+-- the new object of the type with this name; `None` if the type is not built in
 abbrev pub object_named : List ℕ → Option BusObject
 object_named name = first_given (large_named name ∷ small_named name ∷ [])
 
--- what an object of the bench shows
+-- the view of a built-in object
 abbrev pub view_of : BusObject → View
 view_of (BusAgent bus_agent) = bus_agent_view bus_agent
 view_of (BusDriver bus_driver) = bus_driver_view bus_driver
@@ -89,7 +90,7 @@ view_of (Sleeper sleeper) = sleeper_view sleeper
 view_of (SlowDriver slow_driver) = slow_driver_view slow_driver
 view_of (Spinner spinner) = spinner_view spinner
 
--- the name of the type of an object of the bench
+-- the type name of a built-in object
 abbrev pub name_of : BusObject → List ℕ
 name_of (BusAgent bus_agent) = bus_agent.type_name
 name_of (BusDriver bus_driver) = bus_driver.type_name
@@ -109,7 +110,7 @@ name_of (Sleeper sleeper) = sleeper.type_name
 name_of (SlowDriver slow_driver) = slow_driver.type_name
 name_of (Spinner spinner) = spinner.type_name
 
--- the relation of an object of the bench
+-- the relation of a built-in object
 abbrev pub says_of : BusObject → Says
 says_of (BusAgent bus_agent) = BusAgentSays
 says_of (BusDriver bus_driver) = BusDriverSays

@@ -1,5 +1,4 @@
--- What an object of the type `pulse` is: in run it raises and drops an objection twice, the second time before the first has drained, and stays as it
--- is.
+-- The type `pulse`: in `run` it raises and drops an objection twice, the second time before the first has drained. It has no state.
 use Rattle.std.specs.Prelude.{◌≡◌, ℕ, ◌==◌, List, [], ◌∷◌, Option, Some, None, codes, if◌then◌else◌, bytes_eq}
 use Rattle.uvm_phase.specs.declared.phases.Phase.TheVariants.{Run}
 use Rattle.uvm_object.specs.Objects.{View}
@@ -9,11 +8,11 @@ use Rattle.uvm_acts.specs.declared.acts.Act.{Act}
 use Rattle.uvm_acts.specs.declared.acts.Act.TheVariants.{RaiseObjection, DropObjection, SetDrain, Wait}
 use Rattle.bus_objects.specs.declared.pulse.Pulse.{Pulse}
 
--- it shows nothing of itself
+-- the view of a `pulse`, which is empty
 abbrev pub pulse_view : Pulse → View
 pulse_view pulse = []
 
--- what it does when it wakes, by what its wait was told by
+-- the actions when a wait ends, by the tag of the wait
 abbrev pub woken_acts : ℕ → List Act
 woken_acts tag =
     if tag == 1 then DropObjection 1 ∷ Wait 2 2 ∷ []
@@ -21,16 +20,16 @@ woken_acts tag =
     else if tag == 3 then DropObjection 1 ∷ []
     else []
 
--- what a pulse answers to a call: in run it sets a drain time, raises an objection and waits; then `woken_acts`
+-- the answer of a `pulse` to a call: in `run` it sets a drain time, raises an objection and waits; then `woken_acts`
 abbrev pub pulse_acts : Call → List Act
 pulse_acts (Phase Run) = SetDrain 5 ∷ RaiseObjection 1 ∷ Wait 10 1 ∷ []
 pulse_acts (Wake tag) = woken_acts tag
 pulse_acts call = []
 
--- the relation of a pulse: it gives these answers, and its view stays the same
+-- the relation of a `pulse`: it gives these answers, and its view stays the same
 abbrev pub PulseSays : View → Call → List Act → View → Type 0
 PulseSays before call acts after = (acts ≡ pulse_acts call) × (after ≡ before)
 
--- the new object of the type of this name, if it is that type
+-- a new object if the name is `pulse`; `None` otherwise
 abbrev pub pulse_named : List ℕ → Option Pulse
 pulse_named name = if bytes_eq name (codes "pulse") then Some (record { type_name = name }) else None

@@ -1,4 +1,4 @@
--- What an object of the type `seq_burst` is: a sequence that writes two words and reads them back, under a lock.
+-- The type `seq_burst`: a sequence that writes two words and reads them back, under a lock.
 use Rattle.std.specs.Prelude.{◌≡◌, ℕ, List, [], ◌∷◌, Option, Some, None, codes, slice_get, if◌then◌else◌, bytes_eq}
 use Rattle.uvm_tlm.specs.declared.items.Item.{Item}
 use Rattle.uvm_object.specs.Objects.{View}
@@ -10,15 +10,15 @@ use Rattle.bus_objects.specs.declared.seq_burst.SeqBurst.{SeqBurst}
 use Rattle.bus_objects.specs.Items.{read_item, write_item}
 use Rattle.bus_objects.specs.Sequences.{count_of, send_acts, sent_after, while_left}
 
--- it shows how many items it has sent
+-- the view of a `seq_burst`: the number of items that it has sent
 abbrev pub seq_burst_view : SeqBurst → View
 seq_burst_view seq_burst = seq_burst.sent ∷ []
 
--- the items that it sends, in order: it writes 20 at 0 and 21 at 1, then reads at both
+-- the items that it sends, in order: writes of 20 at address 0 and 21 at address 1, then reads at both
 abbrev pub burst_items : List Item
 burst_items = write_item 0 20 ∷ write_item 1 21 ∷ read_item 0 ∷ read_item 1 ∷ []
 
--- what a burst answers to a call: it asks for a lock, sends its items one by one, and gives the lock back
+-- the answer of a `seq_burst` to a call: it requests a lock, sends its items one by one, and releases the lock
 abbrev pub seq_burst_acts : ℕ → Call → List Act
 seq_burst_acts sent PreStart = EndStep ∷ []
 seq_burst_acts sent Body = Lock ∷ []
@@ -28,10 +28,10 @@ seq_burst_acts sent Grant = send_acts (slice_get burst_items sent)
 seq_burst_acts sent (ItemDone response) = while_left (slice_get burst_items sent) (Request None ∷ []) (Unlock ∷ EndStep ∷ [])
 seq_burst_acts sent call = []
 
--- the relation of a burst: it answers by the count that it shows, and then shows the count after the call
+-- The relation of a `seq_burst`. The count in its view determines its answer, and the next view is the count after the call.
 abbrev pub SeqBurstSays : View → Call → List Act → View → Type 0
 SeqBurstSays before call acts after = let sent = count_of before in (acts ≡ seq_burst_acts sent call) × (after ≡ sent_after burst_items sent call ∷ [])
 
--- the new object of the type of this name, if it is that type
+-- a new object if the name is `seq_burst`; `None` otherwise
 abbrev pub seq_burst_named : List ℕ → Option SeqBurst
 seq_burst_named name = if bytes_eq name (codes "seq_burst") then Some (record { type_name = name; sent = 0 }) else None

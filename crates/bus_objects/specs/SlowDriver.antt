@@ -1,4 +1,4 @@
--- What an object of the type `slow_driver` is: a driver that keeps an item that comes, and puts it 3 ticks later.
+-- The type `slow_driver`: a driver that keeps an item that comes, and puts it 3 ticks later.
 use Rattle.std.specs.Prelude.{◌≡◌, ℕ, pos, List, [], ◌∷◌, Option, Some, None, codes, map, replicate, if◌then◌else◌, bytes_eq}
 use Rattle.uvm_tlm.specs.declared.items.Item.{Item}
 use Rattle.uvm_object.specs.Objects.{View}
@@ -10,38 +10,38 @@ use Rattle.bus_objects.specs.declared.slow_driver.SlowDriver.{SlowDriver}
 use Rattle.bus_objects.specs.Driver.{driver_acts, put_act}
 use Rattle.bus_objects.specs.Words.{integer_of, number_of}
 
--- an item is shown as its words
+-- the view of an item: its integers
 unfoldable pub item_view : Item → View
 item_view item = map number_of item.0
 
--- the item that is shown so
+-- the item that is read back from a view
 unfoldable pub item_of : View → Item
 item_of view = record { 0 = map integer_of view }
 
--- it shows the item that it keeps
+-- the view of a `slow_driver`: the kept item
 abbrev pub slow_driver_view : SlowDriver → View
 slow_driver_view slow_driver = item_view slow_driver.item
 
--- what a slow driver answers to a call: when an item comes it waits for 3 ticks, and then puts the item that it keeps
+-- the answer of a slow driver to a call: it waits for 3 ticks when an item comes, and then puts the kept item
 abbrev pub slow_driver_acts : Item → Call → List Act
 slow_driver_acts kept (NextItem port (Some item)) = Wait 3 1 ∷ []
 slow_driver_acts kept (Wake tag) = put_act kept ∷ []
 slow_driver_acts kept call = driver_acts call
 
--- the item that it keeps after a call: an item that comes, otherwise the same as before
+-- the kept item after a call: an item that comes replaces it
 abbrev pub kept_after : Item → Call → Item
 kept_after kept (NextItem port (Some item)) = item
 kept_after kept call = kept
 
--- it does by the item that it shows, and then shows the one that it has kept
+-- The relation of a slow driver. The kept item in its view determines its answer, and the next view is the item kept after the call.
 abbrev pub SlowDriverSays : View → Call → List Act → View → Type 0
 SlowDriverSays before call acts after = let kept = item_of before in (acts ≡ slow_driver_acts kept call) × (after ≡ item_view (kept_after kept call))
 
--- the new object of the type of this name
+-- the new object of type `slow_driver`, with this type name and an item of zeros
 abbrev pub new_slow_driver : List ℕ → SlowDriver
 new_slow_driver name = record { type_name = name; item = record { 0 = replicate 4 (pos 0) } }
 
--- it, if the name is that of its type
+-- a new object if the name is `slow_driver`; `None` otherwise
 abbrev pub slow_driver_named : List ℕ → Option SlowDriver
 slow_driver_named name =
     if bytes_eq name (codes "slow_driver") then Some (new_slow_driver name)

@@ -19,7 +19,7 @@ pub trait Fresh: UvmObject {
     ghost named: { (type_name : List ℕ) → Self.name (fresh type_name) ≡ type_name };
 }
 
-// An object before its first call, which its type name determines, or an object that was called.
+// An object before its first call, which its type name determines, or an object after its first call.
 #[derive(Drop)]
 enum BoxedState<O: Fresh> {
     New(Name),
@@ -42,7 +42,7 @@ impl<O: Fresh> Model for Boxed<O> {
 }
 
 impl<O: Fresh> Boxed<O> {
-    /// Returns the new object with this type name. Allocates no memory before the first call; if that call runs out of memory, the object
+    /// Returns the new object with this type name. Allocates no memory before the first call. If that call runs out of memory, the object
     /// stays new.
     pub fn new(type_name: Name) -> Boxed<O>
         ensures { result ≡ O.fresh type_name }

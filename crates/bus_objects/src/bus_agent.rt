@@ -9,10 +9,10 @@ use uvm_object::{Acts, Call, UvmObject};
 use uvm_phase::Phase;
 use uvm_sequencer::Mode;
 
-/// Builds the sequencer, the driver and the monitor of the bus, and connects them. In `build` it looks up the field `arb`. When the value
-/// comes (`config`), it adds the sequencer `sqr`. It then creates a `bus_driver` as `drv` and a `bus_monitor` as `mon`. The value selects
-/// the arbitration mode of `sqr`: 1 `WEIGHTED`, 2 `RANDOM`, 3 `STRICT_FIFO`, 4 `STRICT_RANDOM`; any other value, or none, selects `FIFO`.
-/// In `connect` it connects `drv.sqp` to `sqr` and `drv.ap` to `mon.bus`.
+/// A component that builds the sequencer, the driver and the monitor of the bus, and connects them. In `build` it looks up the field `arb`.
+/// When the value comes (`config`), it adds the sequencer `sqr`. It then creates a `bus_driver` as `drv` and a `bus_monitor` as `mon`. The
+/// value selects the arbitration mode of `sqr`: 1 `WEIGHTED`, 2 `RANDOM`, 3 `STRICT_FIFO`, 4 `STRICT_RANDOM`; any other value, or none,
+/// selects `FIFO`. In `connect` it connects `drv.sqp` to `sqr` and `drv.ap` to `mon.bus`.
 ///
 /// View: always empty, since it has no state. It answers every other call with no actions. Standard: IEEE 1800.2-2020, Annex C (the
 /// field), Clause 15 (the sequencer), Clause 12 (the connections).

@@ -7,10 +7,10 @@ use std::alloc::{AllocError, Global};
 use uvm_glob::Name;
 use uvm_object::{Acts, Call, UvmObject};
 
-/// Passes items from a sequencer to a memory, and their results back. In `build` it adds the seq port `sqp`, the put port `req`, the get
-/// port `rsp` and the analysis port `ap`. In `run` it asks for an item through `sqp` (get_next_item). When an item comes (`next_item`),
-/// it puts the item through `req`. When the item is stored (`stored`), it takes the result through `rsp`. When the result comes
-/// (`taken`), it writes the result to `ap`. It then completes the item with the result as response (item_done), and asks for the next
+/// A driver that passes items from a sequencer to a memory, and their results back. In `build` it adds the seq port `sqp`, the put port
+/// `req`, the get port `rsp` and the analysis port `ap`. In `run` it requests an item through `sqp` (get_next_item). When an item comes
+/// (`next_item`), it puts the item through `req`. When the item is stored (`stored`), it takes the result through `rsp`. When the result
+/// comes (`taken`), it writes the result to `ap`. It then completes the item with the result as response (item_done), and requests the next
 /// item.
 ///
 /// View: always empty, since it has no state. It answers every other call, and a `next_item` without an item, with no actions. Standard:

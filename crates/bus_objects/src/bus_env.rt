@@ -7,8 +7,8 @@ use uvm_glob::Name;
 use uvm_object::{Acts, Call, UvmObject};
 use uvm_phase::Phase;
 
-/// Builds the environment of the bus, and connects its parts. In `build` it creates a `bus_agent` as `agent`, a `bus_mem` as `mem` and a
-/// `bus_scoreboard` as `sb`. It then adds the FIFOs `reqf` and `rspf`, each with a capacity of one item. In `connect` it connects
+/// The environment of the bus, which creates and connects its parts. In `build` it creates a `bus_agent` as `agent`, a `bus_mem` as `mem`
+/// and a `bus_scoreboard` as `sb`. It then adds the FIFOs `reqf` and `rspf`, each with a capacity of one item. In `connect` it connects
 /// `agent.drv.req` and `mem.req` to `reqf`, and `agent.drv.rsp` and `mem.rsp` to `rspf`. It also connects `agent.mon.ap` to `sb.seen`.
 ///
 /// View: always empty, since it has no state. It answers every other call with no actions. Standard: IEEE 1800.2-2020, Clause 12 (the

@@ -8,11 +8,11 @@ use std::alloc::{AllocError, Global};
 use uvm_glob::Name;
 use uvm_object::{Acts, Call, UvmObject};
 
-/// Performs the items of the bus, as a memory. In `build` it adds the get port `req` and the put port `rsp`, and looks up the field
-/// `waits`. When the value comes (`config`), it keeps the value as the number of ticks between an item and its result. This number is 2
-/// if the field has no value or a negative one. In `run` it takes an item through `req`. When the item comes (`taken`), it keeps the item
-/// and waits for these ticks. When it wakes (`wake`), it performs the item and puts the result through `rsp`. When the result is stored
-/// (`stored`), it takes the next item. An item has four words: operation (1 write, any other number read), address, data, 0. A write
+/// A memory that performs the items of the bus. In `build` it adds the get port `req` and the put port `rsp`, and looks up the field
+/// `waits`. When the value comes (`config`), it keeps the value as the number of ticks between an item and its result. This number is 2 if
+/// the field has no value or a negative one. In `run` it takes an item through `req`. When the item comes (`taken`), it keeps the item and
+/// waits for these ticks. When it wakes (`wake`), it performs the item and puts the result through `rsp`. When the result is stored
+/// (`stored`), it takes the next item. An item has four integers: operation (1 write, any other number read), address, data, 0. A write
 /// stores its data at its address, and its result is the item itself. The result of a read is the item with the word at its address as
 /// data, 0 if none was stored.
 ///

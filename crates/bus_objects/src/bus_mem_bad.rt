@@ -8,8 +8,8 @@ use std::alloc::{AllocError, Global};
 use uvm_glob::Name;
 use uvm_object::{Acts, Call, UvmObject};
 
-/// Behaves as `bus_mem`, except that its reads are wrong. The data of a read's result is the word at its address with the lowest bit
-/// flipped. It is 1 if no word was stored there.
+/// A `bus_mem` whose reads are wrong. The data of a read's result is the word at its address with the lowest bit flipped. It is 1 if no
+/// word was stored there.
 ///
 /// View: the ticks, the kept item, and the stored words by address. A new object has 0 ticks, an item of zeros, and no words. It answers
 /// every other call with no actions, as `BusMem` does.

@@ -10,9 +10,9 @@ use uvm_phase::Phase;
 use uvm_report::verbosity;
 use uvm_tlm::PortKind;
 
-/// Reports the items that are written to it, and passes them on. In `build` it adds the imp `bus` and the analysis port `ap`. When an
-/// item is written to the imp (`written`), it reports an INFO with id `MON` and verbosity 200. The text is `write ADDRESS DATA` if the
-/// item's operation is 1, otherwise `read ADDRESS DATA`. It then writes the item to `ap`.
+/// A monitor that reports the items that are written to it, and passes them on. In `build` it adds the imp `bus` and the analysis port
+/// `ap`. When an item is written to the imp (`written`), it reports an INFO with id `MON` and verbosity 200. The text is
+/// `write ADDRESS DATA` if the item's operation is 1, otherwise `read ADDRESS DATA`. It then writes the item to `ap`.
 ///
 /// View: always empty, since it has no state. It answers every other call with no actions. Standard: IEEE 1800.2-2020, Clause 12 (imp and
 /// port), Clause 6 (the report, of medium verbosity).

@@ -13,11 +13,11 @@ use uvm_phase::Phase;
 use uvm_report::{Text, verbosity};
 use uvm_tlm::Item;
 
-/// Checks that each read gives the word that was last written at its address. In `build` it adds the imp `seen`. When an item is written
-/// to the imp (`written`), it counts the item. If the item is a write (operation 1), it stores the data at the address. Any other item is
-/// a read. A read is bad if its data is not the word last written at its address, 0 if none was written. It counts a bad read, and
-/// reports it as an ERROR with id `SB` and the text `read ADDRESS gave DATA not WORD`. In `report` it reports an INFO with id `SB` and
-/// verbosity 200. The text is `N seen M bad`, with the numbers of items and of bad reads. Each number stops at 10^18.
+/// A scoreboard that checks whether each read gives the word that was last written at its address. In `build` it adds the imp `seen`. When
+/// an item is written to the imp (`written`), it counts the item. If the item is a write (operation 1), it stores the data at the address.
+/// Any other item is a read. A read is bad if its data is not the word last written at its address, 0 if none was written. It counts a bad
+/// read, and reports it as an ERROR with id `SB` and the text `read ADDRESS gave DATA not WORD`. In `report` it reports an INFO with id
+/// `SB` and verbosity 200. The text is `N seen M bad`, with the numbers of items and of bad reads. Each number stops at 10^18.
 ///
 /// View: the number of items, the number of bad reads, and the written words by address. A new object has 0, 0 and no words. It answers
 /// every other call, and an item that is not a bad read, with no actions. Standard: IEEE 1800.2-2020, Clause 12 (the imp), Clause 6 (the
@@ -82,7 +82,7 @@ impl UvmObject for BusScoreboard {
 // The state of a scoreboard.
 #[derive(Drop)]
 struct Score {
-    // The number of items, and of the bad reads among them. Each is at most `MOST`.
+    // The number of items, and the number of bad reads among them. Each is at most `MOST`.
     seen: u64,
     bad: u64,
     // The written words, by address.
@@ -90,7 +90,7 @@ struct Score {
 }
 
 impl Score {
-    // The number at which a count stops.
+    // The greatest value of a count.
     const MOST: u64 = 1_000_000_000_000_000_000;
 
     fn new(alloc: Global) -> Score
@@ -119,7 +119,7 @@ impl Score {
         Ok(acts)
     }
 
-    // Updates the score for a call. Errors: out of memory, which leaves the score unchanged.
+    // Updates the score for a call. Errors: out of memory. An error changes nothing.
     fn take_in(&mut self, call: &Call) -> Result<(), AllocError>
         ensures ok { OnOk result (self.new ≡ score_after self.old call.now) }
         ensures err { OnErr result (self.new ≡ self.old) }
@@ -130,7 +130,7 @@ impl Score {
         }
     }
 
-    // Counts an item, and stores the data of a write. Errors: out of memory, which leaves the score unchanged.
+    // Counts an item, and stores the data of a write. Errors: out of memory. An error changes nothing.
     fn see(&mut self, item: &Item) -> Result<(), AllocError>
         ensures ok { OnOk result (self.new ≡ score_with item.now self.old) }
         ensures err { OnErr result (self.new ≡ self.old) }

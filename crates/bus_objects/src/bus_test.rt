@@ -7,9 +7,9 @@ use uvm_glob::Name;
 use uvm_object::{Acts, Call, UvmObject};
 use uvm_phase::Phase;
 
-/// Runs a `seq_smoke` in the environment of the bus. In `build` it creates a `bus_env` as `env`. In `run` it raises an objection, and
-/// starts a `seq_smoke` as `seq` on `env.agent.sqr`, with no priority given. When the sequence has finished (`finished`), it drops the
-/// objection.
+/// A test that runs a `seq_smoke` in the environment of the bus. In `build` it creates a `bus_env` as `env`. In `run` it raises an
+/// objection, and starts a `seq_smoke` as `seq` on `env.agent.sqr`, with no priority given. When the sequence has finished (`finished`), it
+/// drops the objection.
 ///
 /// View: always empty, since it has no state. It answers every other call with no actions. Standard: IEEE 1800.2-2020, Clause 14 (the
 /// sequence), Clause 10.5 (the objection).

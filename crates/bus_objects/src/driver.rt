@@ -8,8 +8,8 @@ use uvm_object::{Acts, Call};
 use uvm_phase::Phase;
 use uvm_tlm::{Item, PortKind};
 
-// Returns the answer that both drivers share: it adds ports, asks for items, and writes and returns results, but puts no items. Errors:
-// out of memory.
+// Returns the answer that both drivers share: it adds ports, requests items, and writes and returns results, but puts no items. Errors: out
+// of memory.
 pub(crate) fn driver_acts(alloc: Global, call: &Call) -> Result<Acts, AllocError>
     ensures { IfOk result (λ acts. acts ≡ driver_acts call.now) }
 {

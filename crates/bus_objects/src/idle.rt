@@ -6,7 +6,7 @@ use std::alloc::{AllocError, Global};
 use uvm_glob::Name;
 use uvm_object::{Acts, Call, UvmObject};
 
-/// Answers every call with no actions.
+/// An object that answers every call with no actions.
 ///
 /// View: always empty, since it has no state.
 #[derive(Drop)]

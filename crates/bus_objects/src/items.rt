@@ -7,7 +7,7 @@ use std::alloc::{AllocError, Global};
 use uvm_report::Text;
 use uvm_tlm::Item;
 
-// The operation of a write; any other is a read.
+// The operation of a write. Any other operation is a read.
 const WRITE: i64 = 1;
 
 // Returns whether the item is a write.
@@ -29,7 +29,7 @@ pub(crate) fn data_of(item: &Item) -> i64
     item.0[2]
 }
 
-// Returns the item with other data.
+// Returns the item with this data.
 pub(crate) fn with_data(item: &Item, word: i64) -> Item
     ensures { result ≡ with_data item.now word }
 {

@@ -8,7 +8,7 @@ use uvm_object::{Acts, Call, UvmObject};
 use uvm_phase::Phase;
 use uvm_report::Text;
 
-/// Reports three ERRORs in `build`, all with id `E`. Their texts are `one`, `two` and `three`, in this order.
+/// A component that reports three ERRORs in `build`, all with id `E`. Their texts are `one`, `two` and `three`, in this order.
 ///
 /// View: always empty, since it has no state. It answers every other call with no actions.
 #[derive(Drop)]

@@ -10,10 +10,10 @@ use uvm_object::{Acts, Call};
 use uvm_phase::Phase;
 use uvm_tlm::{Item, PortKind};
 
-// The ticks that a memory waits for if the field has no value or a negative one.
+// The number of ticks that a memory waits for if the field `waits` has no value or a negative one.
 const USUAL_WAITS: u64 = 2;
 
-// The data that the result of a read has.
+// The data of the result of a read.
 #[derive(Clone, Copy)]
 pub(crate) enum Reading {
     // The stored word.
@@ -23,7 +23,7 @@ pub(crate) enum Reading {
 }
 
 impl Reading {
-    // Returns the data of a read's result, for the word at its address.
+    // Returns the data of the result of a read, for the word at its address.
     fn data_read(self, word: i64) -> i64
         ensures { result ≡ data_read self word }
     {
@@ -55,7 +55,7 @@ impl Memory {
         }
     }
 
-    // Answers a call. Errors: out of memory, which leaves `self` unchanged.
+    // Returns the actions that answer a call, and updates the memory. Errors: out of memory. An error changes nothing.
     pub(crate) fn hear(
         &mut self,
         alloc: Global,
@@ -89,7 +89,7 @@ impl Memory {
         Ok(acts)
     }
 
-    // Updates `self` for a call. Errors: out of memory, which leaves `self` unchanged.
+    // Updates the memory for a call. Errors: out of memory. An error changes nothing.
     fn take_in(&mut self, call: &Call) -> Result<(), AllocError>
         ensures ok { OnOk result (self.new ≡ memory_after self.old call.now) }
         ensures err { OnErr result (self.new ≡ self.old) }
@@ -116,7 +116,7 @@ impl Memory {
     }
 }
 
-// Returns the ticks for the value of the field `waits`.
+// Returns the ticks for the value of the field `waits`: 2 if there is no value or it is negative.
 fn waits_kept(value: Option<i64>) -> u64
     ensures { result ≡ waits_kept value }
 {

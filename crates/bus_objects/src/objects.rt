@@ -66,7 +66,7 @@ pub enum BusObject {
 impl BusObject {
     ghost use Rattle.bus_objects.specs.Objects.{large_named, object_named, part_named, sequence_named, small_named};
 
-    /// Returns a new object of the type with this name, or `None` if that type is not built in. Allocates no memory.
+    /// Returns a new object of the type with this name. Returns `None` if that type is not built in. Allocates no memory.
     pub fn of_type(type_name: &Name) -> Option<BusObject>
         ensures { result ≡ object_named type_name.now }
     {

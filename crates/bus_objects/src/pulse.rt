@@ -7,9 +7,9 @@ use uvm_glob::Name;
 use uvm_object::{Acts, Call, UvmObject};
 use uvm_phase::Phase;
 
-/// Raises and drops two objections, and raises the second before the first has drained. In `run` it sets a drain time of 5 ticks, raises
-/// an objection, and waits for 10 ticks with tag 1. At `wake 1` it drops the objection, and waits for 2 ticks with tag 2. At `wake 2` it
-/// raises another objection, and waits for 8 ticks with tag 3. At `wake 3` it drops that objection.
+/// A component that raises and drops two objections, and raises the second before the first has drained. In `run` it sets a drain time of 5
+/// ticks, raises an objection, and waits for 10 ticks with tag 1. At `wake 1` it drops the objection, and waits for 2 ticks with tag 2. At
+/// `wake 2` it raises another objection, and waits for 8 ticks with tag 3. At `wake 3` it drops that objection.
 ///
 /// View: always empty, since it has no state. It answers every other call, also a `wake` with another tag, with no actions. Standard:
 /// IEEE 1800.2-2020, Clause 10.5.

@@ -7,7 +7,7 @@ use uvm_glob::Name;
 use uvm_object::{Act, Acts, Call, UvmObject};
 use uvm_tlm::Item;
 
-// The items that it sends, in order: it writes two words and reads them back.
+// The items that the sequence sends, in order: it writes two words and reads them back.
 const ITEMS: [Item; 4] = [
     Item([1, 0, 20, 0]),
     Item([1, 1, 21, 0]),
@@ -15,17 +15,17 @@ const ITEMS: [Item; 4] = [
     Item([0, 1, 0, 0]),
 ];
 
-/// Sends four items under a lock, as a sequence: it writes 20 at address 0 and 21 at address 1, then reads at both. In `pre_start` and
-/// `post_start` it only ends the step. In `body` it requests a lock of its sequencer. When it holds the sequencer (`held`), it requests
-/// to send an item. At each `grant` it sends the next of the items `[1,0,20,0]`, `[1,1,21,0]`, `[0,0,0,0]` and `[0,1,0,0]`. When the
-/// driver has completed an item (`item_done`), it requests again if items are left. Otherwise it releases the lock and ends `body`.
+/// A sequence that sends four items under a lock: it writes 20 at address 0 and 21 at address 1, then reads at both. In `pre_start` and
+/// `post_start` it only ends the step. In `body` it requests a lock of its sequencer. When it holds the sequencer (`held`), it requests to
+/// send an item. At each `grant` it sends the next of the items `[1,0,20,0]`, `[1,1,21,0]`, `[0,0,0,0]` and `[0,1,0,0]`. When the driver
+/// has completed an item (`item_done`), it requests again if items are left. Otherwise it releases the lock and ends `body`.
 ///
 /// View: the number of items that it has sent, initially 0. It answers a `grant` with no item left, and every other call, with no
 /// actions. Standard: IEEE 1800.2-2020, Clause 14 (the steps), Clause 15 (lock, requests and items).
 #[derive(Drop)]
 pub struct SeqBurst {
     type_name: Name,
-    // The number of items that it has sent.
+    // The number of items sent.
     sent: u8,
 }
 

@@ -6,26 +6,26 @@ use std::alloc::{AllocError, Global};
 use uvm_glob::Name;
 use uvm_object::{Acts, Call, UvmObject};
 
-// The number of sequences that it starts.
+// The number of sequences that a `seq_pair` starts.
 const CHILDREN: u8 = 2;
 
-/// Starts two sequences, as a sequence, and ends when both have finished. In `pre_start` and `post_start` it only ends the step. In
-/// `body` it starts a `seq_smoke` as `a`, with no priority given, and a `seq_burst` as `b` with priority 200. Both run on its own
-/// sequencer. When the second of the two has finished (`finished`), it ends `body`.
+/// A sequence that starts two sequences, and ends when both have finished. In `pre_start` and `post_start` it only ends the step. In `body`
+/// it starts a `seq_smoke` as `a`, with no priority given, and a `seq_burst` as `b` with priority 200. Both run on its own sequencer. When
+/// the second of the two has finished (`finished`), it ends `body`.
 ///
 /// View: how many of the two have finished, initially 0 and at most 2. It answers every other call, also the first `finished` and any
 /// after the second, with no actions. Standard: IEEE 1800.2-2020, Clause 14.
 #[derive(Drop)]
 pub struct SeqPair {
     type_name: Name,
-    // How many of the sequences that it started have finished, at most `CHILDREN`.
+    // How many of these sequences have finished, at most `CHILDREN`.
     finished: u8,
 }
 
 impl SeqPair {
     ghost use Rattle.bus_objects.specs.SeqPair.{seq_pair_named};
 
-    /// Returns a new object, of which no sequence has finished, if `type_name` is `seq_pair`, otherwise `None`.
+    /// Returns a new object if `type_name` is `seq_pair`, otherwise `None`. None of its sequences has finished.
     pub fn of_type(type_name: &Name) -> Option<SeqPair>
         ensures { result ≡ seq_pair_named type_name.now }
     {

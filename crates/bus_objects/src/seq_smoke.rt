@@ -7,10 +7,10 @@ use uvm_glob::Name;
 use uvm_object::{Acts, Call, UvmObject};
 use uvm_tlm::Item;
 
-// The items that it sends, in order: it writes a word and reads it back.
+// The items that the sequence sends, in order: it writes a word and reads it back.
 const ITEMS: [Item; 2] = [Item([1, 0, 10, 0]), Item([0, 0, 0, 0])];
 
-/// Sends two items, as a sequence: it writes 10 at address 0, then reads there. In `pre_start` and `post_start` it only ends the step. In
+/// A sequence that sends two items: it writes 10 at address 0, then reads there. In `pre_start` and `post_start` it only ends the step. In
 /// `body` it requests to send an item. At each `grant` it sends the next of the items `[1,0,10,0]` and `[0,0,0,0]`. When the driver has
 /// completed an item (`item_done`), it requests again if an item is left. Otherwise it ends `body`.
 ///
@@ -19,7 +19,7 @@ const ITEMS: [Item; 2] = [Item([1, 0, 10, 0]), Item([0, 0, 0, 0])];
 #[derive(Drop)]
 pub struct SeqSmoke {
     type_name: Name,
-    // The number of items that it has sent.
+    // The number of items sent.
     sent: u8,
 }
 

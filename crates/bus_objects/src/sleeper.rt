@@ -9,16 +9,17 @@ use uvm_glob::Name;
 use uvm_object::{Acts, Call, UvmObject};
 use uvm_phase::Phase;
 
-/// Keeps `run` from ending for a number of ticks. In `build` it looks up the field `at`. When the value comes (`config`), it keeps the
-/// value as this number, which is 0 if the field has no value. In `run` it raises an objection and waits for these ticks. When it wakes
-/// (`wake`), it drops the objection. If the value is negative, it raises the objection and does not wait, so the objection remains.
+/// A component that keeps `run` from ending for a number of ticks. In `build` it looks up the field `at`. When the value comes (`config`),
+/// it keeps the value as this number, which is 0 if the field has no value. In `run` it raises an objection and waits for these ticks. When
+/// it wakes (`wake`), it drops the objection. If the value is negative, it raises the objection and does not wait, so the objection
+/// remains.
 ///
 /// View: the ticks, initially 0; empty if the value is negative. It answers every other call with no actions. Standard: IEEE 1800.2-2020,
 /// Annex C (the field), Clause 10.5 (the objection).
 #[derive(Drop)]
 pub struct Sleeper {
     type_name: Name,
-    // The ticks for which it waits in run; none if the value of the field is negative.
+    // The number of ticks to wait in `run`; `None` if the value of the field is negative.
     ticks: Option<u64>,
 }
 
@@ -84,7 +85,7 @@ impl UvmObject for Sleeper {
     }
 }
 
-// Returns the ticks for the value of the field `at`: 0 without a value, none for a negative one.
+// Returns the ticks for the value of the field `at`: 0 if there is no value, `None` if it is negative.
 fn ticks_kept(value: Option<i64>) -> Option<u64>
     ensures { shown result ≡ ticks_kept value }
 {

@@ -9,15 +9,15 @@ use uvm_glob::Name;
 use uvm_object::{Acts, Call, UvmObject};
 use uvm_tlm::Item;
 
-/// Behaves as `bus_driver`, except that it puts an item 3 ticks after the item came. When an item comes (`next_item`), it keeps the item
-/// and waits for 3 ticks. When it wakes (`wake`), it puts the kept item through `req`.
+/// A `bus_driver` that puts an item 3 ticks after the item came. When an item comes (`next_item`), it keeps the item and waits for 3 ticks.
+/// When it wakes (`wake`), it puts the kept item through `req`.
 ///
-/// View: the four words of the kept item, initially zeros. It answers `build`, `run`, `stored` and `taken` as `BusDriver` does. It
+/// View: the four integers of the kept item, initially zeros. It answers `build`, `run`, `stored` and `taken` as `BusDriver` does. It
 /// answers every other call, and a `next_item` without an item, with no actions.
 #[derive(Drop)]
 pub struct SlowDriver {
     type_name: Name,
-    // The item that came last, initially four zeros.
+    // The last item that came, initially four zeros.
     item: Item,
 }
 

@@ -7,7 +7,7 @@ use uvm_glob::Name;
 use uvm_object::{Acts, Call, UvmObject};
 use uvm_phase::Phase;
 
-/// Waits for 0 ticks in `run`, and again each time it wakes (`wake`). So time never advances, and `run` never ends.
+/// A component that waits for 0 ticks in `run`, and again each time it wakes (`wake`). So time never advances, and `run` never ends.
 ///
 /// View: always empty, since it has no state. It answers every other call with no actions.
 #[derive(Drop)]

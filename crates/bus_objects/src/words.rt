@@ -1,4 +1,4 @@
-//! The words that writes store.
+//! The words that writes store, by address.
 
 ghost use Rattle.std.specs.Prelude.{◌≡◌, [], OnOk, OnErr};
 ghost use Rattle.bus_objects.specs.Words.{word_at, words_after};
@@ -24,7 +24,7 @@ impl Model for WordMap {
 }
 
 impl WordMap {
-    // Returns a map without words. Allocates no memory.
+    // Creates a map without words. Allocates no memory.
     pub(crate) fn new(alloc: Global) -> WordMap
         ensures { result ≡ [] }
     {
@@ -33,14 +33,14 @@ impl WordMap {
         }
     }
 
-    // Returns the word at an address, 0 if none was stored.
+    // Returns the word at an address, or 0 if none was stored.
     pub(crate) fn at(&self, address: i64) -> i64
         ensures { result ≡ word_at self.now address }
     {
         self.words.get(&address).copied().unwrap_or(0)
     }
 
-    // Stores the data of a write at its address; a read changes nothing. Errors: out of memory, which leaves the words unchanged.
+    // Stores the data of a write at its address. Does nothing for a read. Errors: out of memory. An error changes nothing.
     pub(crate) fn take_in(&mut self, item: &Item) -> Result<(), AllocError>
         ensures ok { OnOk result (self.new ≡ words_after item.now self.old) }
         ensures err { OnErr result (self.new ≡ self.old) }

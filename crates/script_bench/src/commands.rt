@@ -17,7 +17,7 @@ answers to standard input. Clients in Python and C++ are in clients/. A file of 
 Exit status: as that of run.
 
 Example, in the top folder:
-  script_bench serve crates/hello_bench/data/hello.toml < clients/hello.answers
+  script_bench serve crates/example_hello/data/hello.toml < clients/hello.answers
 
 The protocol: docs/PROTOCOL.md. Which way to write a testbench: docs/BENCHES.md";
 
@@ -39,21 +39,21 @@ Tutorial: docs/GUIDE.md. All keys, calls and actions: docs/REFERENCE.md";
 /// The options of `run` and of `serve`.
 #[derive(Clone, Copy)]
 pub struct Options {
-    /// Whether to print every entry of the log.
+    /// The choice to print every entry of the log.
     pub trace: bool,
     /// The seed of the random numbers.
     pub seed: u64,
 }
 
-/// Returns the command line: `run [--trace] [--seed N] [--test NAME] FILE..`, and `serve` with the same options and one FILE. Errors: out
-/// of memory.
+/// Creates the command line: `run [--trace] [--seed N] [--test NAME] FILE..`, and `serve` with the same options and one FILE. Errors: out of
+/// memory.
 pub fn command<'a>(alloc: Global) -> Result<Command<'a>, AllocError> {
     let run = run_command(alloc)?;
     let serve = serve_command(alloc)?;
     top_command(alloc).subcommand(run)?.subcommand(serve)
 }
 
-// `script_bench` without its subcommand.
+// Creates `script_bench` without its subcommands.
 fn top_command<'a>(alloc: Global) -> Command<'a> {
     Command::new(alloc, "script_bench")
         .about(ABOUT)
@@ -63,14 +63,14 @@ fn top_command<'a>(alloc: Global) -> Command<'a> {
         .subcommand_required(true)
 }
 
-// `run [--trace] [--seed N] [--test NAME] FILE..`.
+// Creates `run [--trace] [--seed N] [--test NAME] FILE..`. Errors: out of memory.
 fn run_command<'a>(alloc: Global) -> Result<Command<'a>, AllocError> {
     run_options(alloc)?
         .arg(test_arg(alloc))?
         .arg(files_arg(alloc))
 }
 
-// `serve [--trace] [--seed N] [--test NAME] FILE`.
+// Creates `serve [--trace] [--seed N] [--test NAME] FILE`. Errors: out of memory.
 fn serve_command<'a>(alloc: Global) -> Result<Command<'a>, AllocError> {
     Command::new(alloc, "serve")
         .about(ABOUT_SERVE)
@@ -81,7 +81,7 @@ fn serve_command<'a>(alloc: Global) -> Result<Command<'a>, AllocError> {
         .arg(file_arg(alloc))
 }
 
-// `run [--trace] [--seed N]`.
+// Creates `run [--trace] [--seed N]`. Errors: out of memory.
 fn run_options<'a>(alloc: Global) -> Result<Command<'a>, AllocError> {
     Command::new(alloc, "run")
         .about(ABOUT_RUN)
@@ -126,7 +126,7 @@ fn file_arg<'a>(alloc: Global) -> Arg<'a> {
         .required(true)
 }
 
-/// Returns the options of `run` or `serve`: the seed is 1 if it is omitted.
+/// Returns the options of `run` or `serve`. The seed is 1 if it is omitted.
 pub fn options_of(run: &ArgMatches<'_>) -> Options {
     Options {
         trace: run.get_flag("trace"),

@@ -1,11 +1,11 @@
-//! The program `script_bench`: `run FILE..` runs documents, each of which is a script with the answers of its objects; `serve FILE` runs
-//! one whose objects are in another program.
+//! The program `script_bench`: `run FILE..` runs documents, each of which holds a script and the answers of its objects. `serve FILE` runs a
+//! document whose objects another program holds, except those with answers in the document.
 #![tactic(auto)]
 
 mod commands;
 mod program;
 
-use script_jobs::Breakage;
+use script_input::Breakage;
 use std::io::{BufReader, BufWriter, Input};
 use std::process::ExitCode;
 

@@ -1,10 +1,11 @@
-//! What the program does, on any runtime and with any writers.
+//! The commands of the program, on any runtime and with any writers.
 
 use crate::commands::{Options, command, options_of};
 use bench_script::ScriptFault;
 use clap::error::ErrorKind;
 use clap::{ArgMatches, Error};
-use script_jobs::{Breakage, FileVerdict, read_file, run_bench};
+use script_input::{Breakage, read_file};
+use script_jobs::run_bench;
 use serve_jobs::{Pipe, serve_bench, serve_nothing};
 use std::alloc::Global;
 use std::fs::File;
@@ -13,13 +14,13 @@ use std::rt::{Env, Files};
 use std::{env, fs, io};
 use uvm_glob::{Name, PathFault};
 
-// The exit status if the command line or a file is refused.
+// The exit status if the command line or a file is rejected.
 const REFUSED: u8 = 2;
 
-// The exit status if a run stops before its end.
+// The exit status if the program or a run stops before its end.
 const BROKEN: u8 = 3;
 
-// Why a file was not read.
+// The reason why a file is not read.
 #[derive(Clone, Copy)]
 enum Unread {
     Missing,
@@ -29,7 +30,7 @@ enum Unread {
 }
 
 impl Unread {
-    // Returns what is reported of the file.
+    // Returns the message about the file.
     fn message(self) -> &'static str {
         match self {
             Unread::Missing => "no such file",
@@ -40,9 +41,9 @@ impl Unread {
     }
 }
 
-/// Executes the command line and returns the exit status: the greatest of the files' statuses (0 clean, 1 faulty, 2 refused, 3 broken).
-/// For help and the version it returns 0, or 3 if the text could not be written. It returns 2 if the command line is refused, and 3 if
-/// memory runs out or the output fails.
+/// Executes the command line and returns the exit status: the greatest of the files' statuses (0 clean, 1 faulty, 2 rejected, 3 broken). For
+/// help and the version it returns 0, or 3 if the text could not be written. It returns 2 if the command line is rejected, and 3 if memory
+/// runs out or the output fails.
 pub fn run<R: Env + Files + AllocGlobal, I: BufRead + Drop, O: Write + Drop, E: Write>(
     rt: &R,
     input: I,
@@ -79,7 +80,7 @@ fn parse<R: Files + AllocGlobal, I: BufRead + Drop, O: Write + Drop, E: Write>(
     }
 }
 
-// Prints the help or the version, or reports why the command line is refused.
+// Writes the help or the version to `out`, or the error in the command line to `err`. Returns the exit status.
 fn refuse<O: Write, E: Write>(error: &Error, out: &mut O, err: &mut E) -> u8 {
     match error.kind() {
         ErrorKind::DisplayHelp | ErrorKind::DisplayVersion => {
@@ -97,7 +98,7 @@ fn refuse<O: Write, E: Write>(error: &Error, out: &mut O, err: &mut E) -> u8 {
     }
 }
 
-/// Reports that the program stopped, apart from any file, and returns the exit status.
+/// Writes an error that concerns no file to `err`, and returns the exit status, which is 3.
 pub fn broken<E: Write>(breakage: Breakage, err: &mut E) -> u8 {
     let message = breakage.message();
     let _ = writeln!(err, "script_bench: {message}");
@@ -129,7 +130,7 @@ fn obey<R: Files + AllocGlobal, I: BufRead + Drop, O: Write + Drop, E: Write>(
     }
 }
 
-// Serves a file to the client that writes the input and reads the output.
+// Runs a file over the objects of the client that writes the input and reads the output. Returns the exit status.
 fn serve_file<R: Files + AllocGlobal, I: BufRead + Drop, O: Write + Drop, E: Write>(
     rt: &R,
     file: &str,
@@ -154,7 +155,7 @@ fn serve_file<R: Files + AllocGlobal, I: BufRead + Drop, O: Write + Drop, E: Wri
     verdict.status()
 }
 
-// Returns the test of `--test`, if there is one. Errors: the test is not a name.
+// Returns the test of `--test`, or `None` if the option is omitted. Errors: the test is not a name.
 fn test_of(run: &ArgMatches<'_>) -> Result<Option<Name>, PathFault> {
     match run.get_str("test") {
         Some(text) => Ok(Some(Name::new(text.as_bytes())?)),
@@ -162,7 +163,7 @@ fn test_of(run: &ArgMatches<'_>) -> Result<Option<Name>, PathFault> {
     }
 }
 
-// Runs one file as it is, or several one after another.
+// Runs one file without a header, or several files one after another. Returns the exit status.
 fn run_files<R: Files + AllocGlobal, O: Write, E: Write>(
     rt: &R,
     files: &[&str],
@@ -177,7 +178,7 @@ fn run_files<R: Files + AllocGlobal, O: Write, E: Write>(
     }
 }
 
-// Runs several files one after another, and returns the greatest status.
+// Runs several files one after another. Returns the greatest exit status, or 3 if the output fails.
 fn run_several<R: Files + AllocGlobal, O: Write, E: Write>(
     rt: &R,
     files: &[&str],
@@ -199,7 +200,8 @@ fn run_several<R: Files + AllocGlobal, O: Write, E: Write>(
     greatest
 }
 
-// Runs a file. A line before its text names it, and a line after it gives its status.
+// Runs a file. Writes a line with its name before the output of its run, and a line with its exit status after it. Returns the status.
+// Errors: the writer's.
 fn run_named<R: Files + AllocGlobal, O: Write, E: Write>(
     rt: &R,
     file: &str,
@@ -235,7 +237,7 @@ fn run_file<R: Files + AllocGlobal, O: Write, E: Write>(
     verdict.status()
 }
 
-// Reports why a file was not read, and returns the exit status.
+// Writes why a file was not read to `err`, and returns the exit status, which is 3.
 fn report_unread<E: Write>(file: &str, why: Unread, err: &mut E) -> u8 {
     let message = why.message();
     let _ = writeln!(err, "script_bench: {file}: {message}");
@@ -250,7 +252,7 @@ fn bytes_of<R: Files + AllocGlobal>(rt: &R, file: &str) -> Result<Vec<u8>, Unrea
     };
     match read_file(rt.alloc(), &mut opened) {
         Ok(bytes) => Ok(bytes),
-        Err(FileVerdict::Broken(Breakage::Memory)) => Err(Unread::Memory),
+        Err(Breakage::Memory) => Err(Unread::Memory),
         Err(_) if is_directory(rt, file) => Err(Unread::Directory),
         Err(_) => Err(Unread::Unreadable),
     }

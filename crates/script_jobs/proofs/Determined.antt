@@ -1,33 +1,7 @@
 -- The runs of a document are determined.
-use Rattle.std.proofs.Common.{◌≡◌, ◌∙◌, ℕ, Bool, List, [], Option, Some, None, Result, Ok, Err, inl, inr, refl, sym, ap, subst, slice_get, if◌then◌else◌}
-use Rattle.std.specs.Prelude.{codes}
-use Rattle.std.specs.Io.KnownBytes.{Keeps}
-use Rattle.toml.specs.Data.{Data, Members, get_member}
-use Rattle.rand_core.specs.Stream.{Stream}
-use Rattle.uvm_object.specs.Objects.{View}
-use Rattle.uvm_acts.specs.declared.acts.Call.{Call}
-use Rattle.bench_script.specs.Documents.{tree_of_bytes}
-use Rattle.script_values.specs.declared.faults.ScriptFault.{ScriptFault}
-use Rattle.bench_script.specs.Scripts.{ScriptValue}
-use Rattle.bench_run.specs.declared.endings.Ending.{Ending}
-use Rattle.bench_run.specs.declared.faults.RunFault.{RunFault}
+use Rattle.script_jobs.proofs.Common.{◌≡◌, ◌∙◌, ℕ, Bool, List, [], Some, None, Result, Ok, Err, inl, inr, refl, sym, ap, subst, slice_get, if◌then◌else◌, Keeps, Data, Members, get_member, Stream, View, Call, tree_of_bytes, ScriptFault, ScriptValue, RunResult, RunFault, is_clean, AllowsOneAtMost, EndsAreDetermined, ObjectsAreFunctions, breakage_of, Memory, LogFull, Output, Unread, TypeValue, AnswersAreFunctions, TablesTellTypes, AreTypesOf, IsDecided, RunsAreDetermined, name_of, object_named, says_of, view_of, HasBare, HasUnknown, HoldsAnswers, IsBenchRun, IsNoTable, IsScriptRun, IsTreeRun, IsUnread, RanTo, bare_types, lost_test, refusal_by, script_to_run, unknown_types, BenchObject, Scripted, Bus, Script, UnknownTest, NoTable, UnknownType, NoObject, Answers, Verdict, Clean, Faulty, Refused, Broken, Option, codes}
 use Rattle.bench_run.specs.declared.faults.RunFault.TheVariants as ran
-use Rattle.bench_run.specs.Endings.{is_clean}
-use Rattle.bench_run.specs.Laws.{AllowsOneAtMost, EndsAreDetermined, IsDecided as has_ended}
-use Rattle.bus_objects.specs.Laws.{ObjectsAreFunctions}
-use Rattle.bus_jobs.specs.Verdicts.{breakage_of}
-use Rattle.bus_jobs.specs.declared.verdicts.Breakage.TheVariants.{Memory, LogFull, Output, Unread}
-use Rattle.scripted_objects.specs.Answers.{TypeValue}
-use Rattle.scripted_objects.specs.Laws.{AnswersAreFunctions, TablesTellTypes}
-use Rattle.scripted_objects.specs.Tables.{AreTypesOf}
-use Rattle.script_jobs.specs.Laws.{IsDecided, RunsAreDetermined}
-use Rattle.script_jobs.specs.Objects.{name_of, object_named, says_of, view_of}
-use Rattle.script_jobs.specs.Runs.{HasBare, HasUnknown, HoldsAnswers, IsBenchRun, IsNoTable, IsScriptRun, IsTreeRun, IsUnread, RanTo, bare_types, lost_test, refusal_by, script_to_run, unknown_types}
-use Rattle.script_jobs.specs.declared.objects.BenchObject.{BenchObject}
-use Rattle.script_jobs.specs.declared.objects.BenchObject.TheVariants.{Scripted, Bus}
-use Rattle.script_jobs.specs.declared.verdicts.Refusal.TheVariants.{Script, UnknownTest, NoTable, UnknownType, NoObject, Answers}
-use Rattle.script_jobs.specs.declared.verdicts.Verdict.{Verdict}
-use Rattle.script_jobs.specs.declared.verdicts.Verdict.TheVariants.{Clean, Faulty, Refused, Broken}
+use Rattle.bench_run.specs.Laws.{IsDecided as has_ended}
 
 -- each object gives one answer
 functions : AnswersAreFunctions → ObjectsAreFunctions → (object : BenchObject) (before : View) (call : Call) → AllowsOneAtMost (says_of object before call)
@@ -54,8 +28,8 @@ same-types tell (Some answers) types others holds also =
     tell holds.0 types others holds.2 (subst (λ table. AreTypesOf table others) same also.2)
 
 -- the verdict on a run that is over, or whose log is full
-verdict_of : Result Ending RunFault → Verdict
-verdict_of (Ok ending) = if is_clean ending then Clean else Faulty
+verdict_of : Result RunResult RunFault → Verdict
+verdict_of (Ok run_result) = if is_clean run_result then Clean else Faulty
 verdict_of (Err fault) = Broken LogFull
 
 -- what became of the tree of a document: it was refused, or its script ran over its answers
@@ -66,7 +40,7 @@ data OfTree (root : Members) (test : Option (List ℕ)) (words : Stream) (trace 
       → OfTree root test words trace held new verdict
   Bare : (script : ScriptValue) → script_to_run root test ≡ Ok script → (name : List ℕ) → HasBare (get_member (codes "answers") root) script.types name → new ≡ Some held → verdict ≡ Refused (NoObject name)
       → OfTree root test words trace held new verdict
-  Ran : (result : Result Ending RunFault) → has_ended result → RanTo root test words trace (Some held) new result → verdict ≡ verdict_of result → OfTree root test words trace held new verdict
+  Ran : (result : Result RunResult RunFault) → has_ended result → RanTo root test words trace (Some held) new result → verdict ≡ verdict_of result → OfTree root test words trace held new verdict
 
 -- and of its bytes
 data Came (bytes : List ℕ) (test : Option (List ℕ)) (words : Stream) (trace : Bool) (held : List ℕ) (new : Option (List ℕ)) (verdict : Verdict) : Type 0 where
@@ -147,7 +121,7 @@ module _ (tell : TablesTellTypes) (one_answer : (object : BenchObject) (before :
       let nothing : None ≡ Some name = rw none at first in cc
 
   -- two runs of one script over one list of types
-  ran-same : (words : Stream) (trace : Bool) (held : List ℕ) (first second : Option (List ℕ)) (one other : Result Ending RunFault) (script again : ScriptValue) (types others : List TypeValue) → again ≡ script → others ≡ types
+  ran-same : (words : Stream) (trace : Bool) (held : List ℕ) (first second : Option (List ℕ)) (one other : Result RunResult RunFault) (script again : ScriptValue) (types others : List TypeValue) → again ≡ script → others ≡ types
       → IsScriptRun types words script trace (Some held) first one → IsScriptRun others words again trace (Some held) second other → has_ended one → has_ended other → (other ≡ one) × (second ≡ first)
   ran-same words trace held first second one other script again types others scripts same run also ended ends =
       let run_too : IsScriptRun types words script trace (Some held) second other =

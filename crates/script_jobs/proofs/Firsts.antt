@@ -1,12 +1,5 @@
 -- What a list without a first is.
-use Rattle.std.proofs.Common.{◌≡◌, List, [], ◌∷◌, None, refl, slice_get}
-use Rattle.toml.specs.Data.{Data}
-use Rattle.std.specs.Prelude.{Option}
-use Rattle.uvm_factory.specs.Faults.{Types}
-use Rattle.script_jobs.specs.Runs.{IsAnswersFault, IsReadFault}
-use Rattle.script_jobs.specs.declared.verdicts.Refusal.TheVariants.{Script, UnknownTest, NoTable, UnknownType, NoObject, Answers}
-use Rattle.script_jobs.specs.declared.verdicts.Verdict.{Verdict}
-use Rattle.script_jobs.specs.declared.verdicts.Verdict.TheVariants.{Clean, Faulty, Refused, Broken}
+use Rattle.script_jobs.proofs.Common.{◌≡◌, List, [], ◌∷◌, None, refl, slice_get, Data, Types, IsAnswersFault, IsReadFault, Script, UnknownTest, NoTable, UnknownType, NoObject, Answers, Verdict, Clean, Faulty, Refused, Broken, Option}
 
 pub none_first : {A : Type 0} (xs : List A) → slice_get xs 0 ≡ None → xs ≡ []
 none_first [] none = refl

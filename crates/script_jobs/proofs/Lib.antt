@@ -1,3 +1,4 @@
-mod Firsts
+mod Common
 mod Determined
+mod Firsts
 mod Ran

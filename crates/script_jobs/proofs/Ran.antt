@@ -1,24 +1,13 @@
 -- The verdict on a run that is over, and on a script with a fault.
-use Rattle.std.proofs.Common.{◌≡◌, ◌≢◌, ◌⊎◌, ℕ, Bool, true, false, List, Option, Some, None, Result, Ok, Err, inl, inr, refl, subst, sym, if◌then◌else◌}
-use Rattle.std.specs.Io.KnownBytes.{Keeps}
-use Rattle.toml.specs.Data.{Members}
-use Rattle.rand_core.specs.Stream.{Stream}
-use Rattle.bench_run.specs.Endings.{is_clean}
-use Rattle.bench_run.specs.declared.endings.Ending.{Ending}
-use Rattle.script_values.specs.declared.faults.ScriptFault.{ScriptFault}
-use Rattle.script_values.specs.declared.faults.ScriptFault.TheVariants as faults
-use Rattle.script_jobs.specs.Runs.{HasFault, IsReported, IsTreeRun, RanTo, lost_test, refusal_by, script_to_run}
-use Rattle.script_jobs.specs.declared.verdicts.Refusal.{Refusal}
-use Rattle.script_jobs.specs.declared.verdicts.Refusal.TheVariants.{Script, UnknownTest}
-use Rattle.script_jobs.specs.declared.verdicts.Verdict.{Verdict}
-use Rattle.script_jobs.specs.declared.verdicts.Verdict.TheVariants.{Clean, Faulty, Refused}
+use Rattle.script_jobs.proofs.Common.{◌≡◌, ◌≢◌, ◌⊎◌, ℕ, Bool, true, false, List, Some, None, Result, Ok, Err, inl, inr, refl, subst, sym, if◌then◌else◌, Keeps, Members, Stream, is_clean, RunResult, ScriptFault, HasFault, IsReported, IsTreeRun, RanTo, lost_test, refusal_by, script_to_run, Refusal, Script, UnknownTest, Verdict, Clean, Faulty, Refused, Option}
+use Rattle.script_tables.specs.declared.faults.ScriptFault.TheVariants as faults
 
-pub ran-to : (root : Members) (test : Option (List ℕ)) (words : Stream) (trace : Bool) (old new : Option (List ℕ)) (ending : Ending) (verdict : Verdict) → RanTo root test words trace old new (Ok ending)
-    → verdict ≡ (if is_clean ending then Clean else Faulty) → IsTreeRun root test words trace old new verdict
-ran-to root test words trace old new ending verdict ran is = subst (IsTreeRun root test words trace old new) (sym is) (by-ending (is_clean ending) refl) where
-  by-ending : (clean : Bool) → is_clean ending ≡ clean → IsTreeRun root test words trace old new (if clean then Clean else Faulty)
-  by-ending true same = (ending, same, ran)
-  by-ending false same = (ending, same, ran)
+pub ran-to : (root : Members) (test : Option (List ℕ)) (words : Stream) (trace : Bool) (old new : Option (List ℕ)) (run_result : RunResult) (verdict : Verdict) → RanTo root test words trace old new (Ok run_result)
+    → verdict ≡ (if is_clean run_result then Clean else Faulty) → IsTreeRun root test words trace old new verdict
+ran-to root test words trace old new run_result verdict ran is = subst (IsTreeRun root test words trace old new) (sym is) (by-run_result (is_clean run_result) refl) where
+  by-run_result : (clean : Bool) → is_clean run_result ≡ clean → IsTreeRun root test words trace old new (if clean then Clean else Faulty)
+  by-run_result true same = (run_result, same, ran)
+  by-run_result false same = (run_result, same, ran)
 
 -- a fault is reported by its number and name, or by the name of the test
 by-number-or-name : (fault : ScriptFault) (lost : Result (Option (List ℕ)) ScriptFault) → (refusal_by fault lost ≡ Script fault) ⊎ ((name : List ℕ) × (refusal_by fault lost ≡ UnknownTest name))

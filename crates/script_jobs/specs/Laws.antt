@@ -1,13 +1,13 @@
--- What holds of all runs of documents.
+-- Laws of all runs of documents.
 use Rattle.std.specs.Prelude.{◌≡◌, ℕ, Bool, List, Option, Some}
 use Rattle.rand_core.specs.Stream.{Stream}
-use Rattle.bus_jobs.specs.declared.verdicts.Breakage.TheVariants.{Memory, LogFull, Output, Unread}
+use Rattle.script_input.specs.declared.breakages.Breakage.TheVariants.{Memory, LogFull, Output, Unread}
 use Rattle.script_jobs.specs.Runs.{IsBenchRun}
 use Rattle.script_jobs.specs.declared.verdicts.Refusal.TheVariants.{Script, UnknownTest, NoTable, UnknownType, NoObject, Answers}
 use Rattle.script_jobs.specs.declared.verdicts.Verdict.{Verdict}
 use Rattle.script_jobs.specs.declared.verdicts.Verdict.TheVariants.{Clean, Faulty, Refused, Broken}
 
--- neither memory nor the output failed, and no answer was refused
+-- the verdict is not out of memory, an error of the output, an error of reading, or a rejected entry of `answers`
 abbrev pub IsDecided : Verdict → Type 0
 IsDecided Clean = Unit {0}
 IsDecided Faulty = Unit {0}
@@ -22,7 +22,8 @@ IsDecided (Broken LogFull) = Unit {0}
 IsDecided (Broken Output) = ⊥
 IsDecided (Broken Unread) = ⊥
 
--- two runs of one document on the same words come to one verdict, and write the same
+-- Two runs of one document have the same verdict and the same output if test, random numbers, trace option and earlier output are the same.
+-- Both verdicts must be `IsDecided`.
 abbrev pub RunsAreDetermined : Type 0
 RunsAreDetermined =
     (bytes : List ℕ) (test : Option (List ℕ)) (words : Stream) (trace : Bool) (held : List ℕ) (first second : Option (List ℕ)) (one other : Verdict)

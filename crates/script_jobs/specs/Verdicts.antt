@@ -1,21 +1,21 @@
--- How a run of a document ends, and what is reported of it.
+-- The verdicts on a document, and the messages about it.
 use Rattle.std.specs.Prelude.{ℕ, List, [], ◌∷◌, ◌++◌, codes, string_bytes}
-use Rattle.script_values.specs.FaultTexts.{fault_text}
-use Rattle.script_values.specs.declared.faults.ScriptFault.TheVariants.{UnknownType as unknown_type}
-use Rattle.bus_jobs.specs.Verdicts.{message_of}
+use Rattle.script_tables.specs.FaultTexts.{fault_text}
+use Rattle.script_tables.specs.declared.faults.ScriptFault.TheVariants.{UnknownType as unknown_type}
+use Rattle.script_input.specs.Breakages.{message_of}
 use Rattle.script_jobs.specs.declared.verdicts.Refusal.{Refusal}
 use Rattle.script_jobs.specs.declared.verdicts.Refusal.TheVariants.{Script, UnknownTest, NoTable, UnknownType, NoObject, Answers}
 use Rattle.script_jobs.specs.declared.verdicts.Verdict.{Verdict}
 use Rattle.script_jobs.specs.declared.verdicts.Verdict.TheVariants.{Clean, Faulty, Refused, Broken}
 
--- the exit status
+-- the exit status of the program
 abbrev pub status_of : Verdict → ℕ
 status_of Clean = 0
 status_of Faulty = 1
 status_of (Refused refusal) = 2
 status_of (Broken breakage) = 3
 
--- what is reported of a document that is refused
+-- the message about a rejected document
 abbrev pub refusal_text : Refusal → List ℕ
 refusal_text (Script fault) = fault_text fault
 refusal_text (UnknownTest name) = codes "test " ++ (name ++ (codes " is not declared in 'type' (" ++ (fault_text unknown_type ++ codes ")")))
@@ -28,7 +28,7 @@ refusal_text (Answers text) = string_bytes text
 abbrev pub error_line : List ℕ → List ℕ → List ℕ
 error_line file message = codes "script_bench: " ++ file ++ codes ": " ++ message ++ 10 ∷ []
 
--- what is written to standard error: the line of the fault, if there is one
+-- the text on standard error: the line of the error, if there is one
 abbrev pub fault_line : List ℕ → Verdict → List ℕ
 fault_line file Clean = []
 fault_line file Faulty = []

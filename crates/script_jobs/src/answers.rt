@@ -3,24 +3,25 @@
 ghost use Rattle.std.specs.Prelude.{◌≡◌, [], IfErr, IfOk, OnOk, Option, Some, codes, option_map, slice_get};
 ghost use Rattle.toml.specs.Data.{Data, Members, as_table, get_member};
 ghost use Rattle.toml.specs.View.{table_view, view};
-ghost use Rattle.scripted_objects.specs.FirstFaults.{HasFirstFault, OrMemoryAt};
+ghost use Rattle.script_objects.specs.FirstFaults.{HasFirstFault, OrMemoryAt};
 ghost use Rattle.script_jobs.specs.Runs.{HoldsAnswers, IsAnswersFault, IsReadFault, bare_types, has_object, has_type, unknown_types};
 ghost use Rattle.uvm_factory.specs.Faults.{Types};
 
 use crate::verdicts::{Refusal, Verdict};
 use bench_script::Script;
-use bus_jobs::Breakage;
 use bus_objects::BusObject;
-use scripted_objects::{AnswerFault, Answers, FaultyAnswer, read_answers};
+use script_input::Breakage;
+use script_objects::{AnswerFault, Answers, FaultyAnswer, read_answers};
 use std::alloc::Global;
 use toml::{Table, Value};
 use uvm_glob::Name;
 
-/// The key of a document whose value is the answers.
+/// The key of the answers in a document.
 pub(crate) const ANSWERS: &str = "answers";
 
-// Returns the answers in a document, if its script declares each of their types, and each type that it declares has an object. Errors: the
-// verdict, if they are refused.
+// Returns the answers in a document; there are none without the key `answers`. Errors: the verdict, if the answers are rejected. The reason
+// is, in order: the value is not a table; one of its entries has an error; the script does not declare a type with answers; a declared type
+// has no object. Or out of memory.
 #[tactic(auto, using(crate::proofs::Firsts::read_fault))]
 pub(crate) fn answers_in(alloc: Global, root: &Table, script: &Script) -> Result<Answers, Verdict>
     ensures ok { IfOk result (λ answers. HoldsAnswers (get_member (codes "answers") (table_view root.now)) answers) }
@@ -34,7 +35,9 @@ pub(crate) fn answers_in(alloc: Global, root: &Table, script: &Script) -> Result
     }
 }
 
-/// Returns the answers in a document, if its script declares each of their types. Errors: the verdict, if they are refused.
+/// Returns the answers in a document; there are none without the key `answers`. Does not check that each declared type has an object. Errors:
+/// the verdict, if the answers are rejected. The reason is, in order: the value is not a table; one of its entries has an error; the script
+/// does not declare a type with answers. Or out of memory.
 pub fn declared_answers(alloc: Global, root: &Table, script: &Script) -> Result<Answers, Verdict>
     ensures ok { IfOk result (λ answers. HoldsAnswers (get_member (codes "answers") (table_view root.now)) answers) }
     ensures known { IfOk result (λ answers. unknown_types answers script.now.types ≡ []) }
@@ -53,7 +56,7 @@ fn member(root: &Table) -> Option<&Value>
     root.get(ANSWERS)
 }
 
-// Returns the answers that a value gives. Errors: the verdict, if they are refused.
+// Returns the answers of a value. Errors: the verdict, as in `declared_answers`.
 fn answers_at(alloc: Global, value: &Value, script: &Script) -> Result<Answers, Verdict>
     ensures ok { IfOk result (λ answers. HoldsAnswers (Some (view value.now)) answers) }
     ensures known { IfOk result (λ answers. unknown_types answers script.now.types ≡ []) }
@@ -68,7 +71,7 @@ fn answers_at(alloc: Global, value: &Value, script: &Script) -> Result<Answers, 
     }
 }
 
-// Returns the answers, if the script declares each of their types. Errors: the verdict on the first type that is not so.
+// Returns the answers, if the script declares each of their types. Errors: `UnknownType` with the first type that it does not declare.
 fn declared(answers: Answers, script: &Script) -> Result<Answers, Verdict>
     ensures ok { IfOk result (λ same. same ≡ answers) }
     ensures known { OnOk result (unknown_types answers script.now.types ≡ []) }
@@ -80,7 +83,7 @@ fn declared(answers: Answers, script: &Script) -> Result<Answers, Verdict>
     }
 }
 
-// Returns the answers, if each type that the script declares has an object. Errors: the verdict on the first type that is not so.
+// Returns the answers, if each type that the script declares has an object. Errors: `NoObject` with the first type that has none.
 fn with_objects(answers: Answers, script: &Script) -> Result<Answers, Verdict>
     requires { unknown_types answers script.now.types ≡ [] }
     ensures ok { IfOk result (λ same. same ≡ answers) }
@@ -93,7 +96,7 @@ fn with_objects(answers: Answers, script: &Script) -> Result<Answers, Verdict>
     }
 }
 
-// Returns the first type with answers that the script does not declare.
+// Returns the first type that has answers but is not declared in the script.
 fn unknown_type(answers: &Answers, script: &Script) -> Option<Name>
     ensures { result ≡ slice_get (unknown_types answers.now script.now.types) 0 }
 {
@@ -111,7 +114,7 @@ fn has_type(script: &Script, type_name: &Name) -> bool
     script.types().iter().any(|row| row.0 == *type_name)
 }
 
-// Returns the first type that the script declares, and that has no object.
+// Returns the first declared type of the script that has no object.
 fn bare_type(answers: &Answers, script: &Script) -> Option<Name>
     ensures { result ≡ slice_get (bare_types answers.now script.now.types) 0 }
 {
@@ -129,7 +132,7 @@ fn has_object(answers: &Answers, type_name: &Name) -> bool
     answers.of_type(type_name).is_some() || BusObject::of_type(type_name).is_some()
 }
 
-// Returns the verdict on a document with an answer at fault.
+// Returns the verdict on an error in `answers`: rejected, with the place and the kind of the error, or out of memory.
 fn refused(alloc: Global, fault: &FaultyAnswer<'_>) -> Verdict
     ensures { (said : Data) (table : Members) (types : Types) → as_table said ≡ Some table → OrMemoryAt (HasFirstFault table) fault.now → IsReadFault (Some said) types result }
 {

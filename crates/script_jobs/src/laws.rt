@@ -5,10 +5,10 @@ ghost use Rattle.script_jobs.specs.Laws.{RunsAreDetermined};
 use crate::objects::BenchObject;
 use bench_run::laws as runs;
 use bus_objects::laws as bus;
-use scripted_objects::laws as answers;
+use script_objects::laws as answers;
 
-/// States a law: the bytes of a document, the seed, the test and the trace option determine the verdict and all that is written. The law
-/// excepts a run if an entry of `answers` is at fault, if memory runs out, or if a write fails.
+/// States a law: the document, the test, the random numbers and the trace option determine the verdict and the output. The law holds for
+/// every run, except if an entry of `answers` has an error, memory runs out, or a write fails.
 pub fn runs_are_determined()
     ensures { RunsAreDetermined }
 {

@@ -8,7 +8,7 @@ mod runs;
 mod verdicts;
 
 pub use answers::declared_answers;
-pub use bus_jobs::{Breakage, Verdict as FileVerdict, read_file};
 pub use objects::BenchObject;
 pub use runs::{reported, run_bench, script_to_run};
+pub use script_input::Breakage;
 pub use verdicts::{Refusal, Verdict};

@@ -4,24 +4,24 @@ ghost use Rattle.std.specs.Prelude.{◌≡◌, IfOk};
 ghost use Rattle.script_jobs.specs.Objects.{object_named};
 
 use bus_objects::BusObject;
-use scripted_objects::{Answers, Scripted};
+use script_objects::{Answers, Scripted};
 use std::alloc::{AllocError, Global};
 use uvm_glob::Name;
 use uvm_object::{Acts, Call, UvmObject};
 
-/// An object of a run: one whose answers are data, or one of the bus bench. Its view and its relation are those of the object that it
-/// holds.
+/// An object of a run: a scripted object, whose answers are data, or an object of the bus bench. Its view and its relation are those of the
+/// object that it holds.
 #[derive(Drop)]
 pub enum BenchObject<'a> {
-    /// An object whose answers are data.
+    /// A scripted object, whose answers are data.
     Scripted(Scripted<'a>),
     /// An object of the bus bench.
     Bus(BusObject),
 }
 
 impl<'a> BenchObject<'a> {
-    /// Returns the new object of a type. If the type has answers, the object gives these. Otherwise it is the object of the bus bench, if
-    /// that has the type. Otherwise it answers every call with no actions. Errors: out of memory.
+    /// Creates the object of a type. If the type has answers, the object gives them. Otherwise it is the object of the bus bench, if that has
+    /// the type. Otherwise it answers every call with no actions. Errors: out of memory.
     pub fn of_type(
         alloc: Global,
         answers: &'a Answers,

@@ -2,38 +2,37 @@
 
 ghost use Rattle.std.specs.Prelude.{◌≡◌, ◌≢◌, IfErr, IfOk, IsSome, MatchResult, Ok, Err, if◌then◌else◌, option_copied};
 ghost use Rattle.toml.specs.View.{table_view};
-ghost use Rattle.script_values.specs.Reading.{IsReading};
-ghost use Rattle.bench_run.specs.Endings.{is_clean};
+ghost use Rattle.script_tables.specs.Reading.{IsReading};
+ghost use Rattle.bench_run.specs.RunResults.{is_clean};
 ghost use Rattle.bench_run.specs.Texts.{TookSome, TookTexts};
 ghost use Rattle.bench_script.specs.Documents.{IsReadable, tree_of_bytes};
-ghost use Rattle.bus_jobs.specs.Runs.{words_of_seed};
+ghost use Rattle.script_input.specs.Scripts.{words_of_seed};
 ghost use Rattle.script_jobs.specs.Runs.{GivesNamed, IsBenchRun, IsReported, IsScriptRun, IsTreeRun, lost_test, own_test, refused_by, script_to_run, undeclared};
 
 use crate::answers::{ANSWERS, answers_in};
 use crate::objects::BenchObject;
 use crate::verdicts::{Refusal, Verdict};
-use bench_run::{Ending, RunFault, Sink, run_script};
+use bench_run::{RunFault, RunResult, Sink, run_script};
 use bench_script::{Script, ScriptFault, read_document, read_table};
-use bus_jobs::Breakage;
 use rand_core::{Rng, SeedableRng};
 use rand_pcg::Pcg64;
+use script_input::{Breakage, choose_test};
+use script_objects::Answers;
+use script_tables::keys::member;
+use script_tables::values::name;
 use script_tables::{TypeTable, read_types};
-use script_values::keys::member;
-use script_values::values::name;
-use scripted_objects::Answers;
 use std::alloc::{AllocError, Global};
 use toml::Table;
 use uvm_glob::Name;
 
-/// Runs the script in a document, on the random numbers of `Pcg64` from the seed. If `test` is given, it replaces the script's own test.
-/// The objects give the answers in the document; an object of a type without answers is that of the bus bench. After each entry of the
-/// log, the entry's line is written if `trace` is on, and the line of its report if that is displayed. After the last entry, the summary
-/// is written.
+/// Runs the script in a document, with the random numbers of `Pcg64` from the seed. If `test` is given, it replaces the script's own test.
+/// The objects give the answers in the document. A type without answers has the object of the bus bench. After each entry of the log,
+/// its line is written if `trace` is on, and the line of its report if that is displayed. After the last entry, the summary is written.
 ///
-/// Returns `Clean` if the run finished and no ERROR or FATAL was counted, and `Faulty` if it ended otherwise. Returns `Refused`, with
-/// nothing written, if the bytes, their answers aside, are not a script, or have no such test. Otherwise it does so if the answers are at
-/// fault, or a declared type has no object. Returns `Broken` if the log is full, if memory runs out, or if the sink refuses a text. Bytes
-/// that are not UTF-8, or are too many, never run out of memory.
+/// Returns `Clean` if the run finished and no ERROR or FATAL was counted, and `Faulty` if it ended otherwise. Returns `Refused`, with nothing
+/// written, in these cases, in this order: the bytes, without `answers`, are not a script; the script has no such test; its answers have an
+/// error; a declared type has no object. Returns `Broken` if the log is full, the sink refuses a text, or memory runs out. Bytes that are not
+/// UTF-8, or are too many, never run out of memory.
 pub fn run_bench<S: Sink>(
     alloc: Global,
     bytes: &[u8],
@@ -53,7 +52,7 @@ pub fn run_bench<S: Sink>(
     }
 }
 
-// Returns the verdict on a document that is not a script.
+// Returns the verdict on a document that is not a script: rejected, or out of memory.
 fn refused(fault: ScriptFault) -> Verdict
     ensures { result ≡ refused_by fault }
 {
@@ -63,7 +62,7 @@ fn refused(fault: ScriptFault) -> Verdict
     }
 }
 
-// Runs the script in the tree of a document.
+// Runs the script in the tree of a document, as `run_bench` does.
 fn run_tree<S: Sink>(
     alloc: Global,
     root: &Table,
@@ -86,12 +85,13 @@ fn run_tree<S: Sink>(
     };
     let mut words = Pcg64::seed_from_u64(seed);
     match run_objects(alloc, script, &answers, &mut words, trace, out) {
-        Ok(ending) => verdict_on(&ending),
+        Ok(run_result) => verdict_on(&run_result),
         Err(fault) => Verdict::Broken(Breakage::of(fault)),
     }
 }
 
-/// Returns the verdict on a script with a fault. It names the test if the script declares no type of that name.
+/// Returns the verdict on an error of a script: rejected, or out of memory. For `UnknownType` the verdict names the test, if no declared type
+/// has its name.
 pub fn reported(alloc: Global, root: &Table, test: Option<&Name>, fault: ScriptFault) -> Verdict
     ensures { IsReported fault (lost_test (table_view root.now) (option_copied test.entry)) result }
 {
@@ -101,7 +101,7 @@ pub fn reported(alloc: Global, root: &Table, test: Option<&Name>, fault: ScriptF
     }
 }
 
-// Returns the verdict on a script in which a type is unknown.
+// Returns the verdict on a script with an unknown type. The verdict names the test, if no declared type has its name.
 fn unknown_type(alloc: Global, root: &Table, test: Option<&Name>) -> Verdict
     ensures { IsReported ScriptFault.UnknownType (lost_test (table_view root.now) (option_copied test.entry)) result }
 {
@@ -113,8 +113,8 @@ fn unknown_type(alloc: Global, root: &Table, test: Option<&Name>) -> Verdict
     }
 }
 
-// Returns the name of a test that the script does not declare as a type: the document's own, otherwise the requested one. Errors: the
-// fault of the types or of the document's test.
+// Returns the name of a test that is not a declared type: the document's own, otherwise the requested one. Errors: the error of the types,
+// then that of the document's test; out of memory.
 fn lost_test(alloc: Global, root: &Table, test: Option<&Name>) -> Result<Option<Name>, ScriptFault>
     ensures { IsReading (lost_test (table_view root.now) (option_copied test.entry)) result }
 {
@@ -126,7 +126,7 @@ fn lost_test(alloc: Global, root: &Table, test: Option<&Name>) -> Result<Option<
     }
 }
 
-// Returns the name that a document gives its test, if it gives one.
+// Returns the name of the test in a document, or `None` if it has none. Errors: that of the value at `test`, if it is not a name.
 fn own_test(root: &Table) -> Result<Option<Name>, ScriptFault>
     ensures { result ≡ own_test (table_view root.now) }
 {
@@ -136,7 +136,7 @@ fn own_test(root: &Table) -> Result<Option<Name>, ScriptFault>
     }
 }
 
-// Returns a name, if no type has it.
+// Returns the name, if one is given and no type has it.
 fn undeclared(types: &TypeTable, name: Option<&Name>) -> Option<Name>
     ensures { result ≡ undeclared types.now (option_copied name.entry) }
 {
@@ -147,18 +147,19 @@ fn undeclared(types: &TypeTable, name: Option<&Name>) -> Option<Name>
 }
 
 // Returns the verdict on a run that has ended.
-fn verdict_on(ending: &Ending) -> Verdict
-    ensures { result ≡ (if is_clean ending.now then Verdict.Clean else Verdict.Faulty) }
+fn verdict_on(run_result: &RunResult) -> Verdict
+    ensures { result ≡ (if is_clean run_result.now then Verdict.Clean else Verdict.Faulty) }
 {
-    if ending.is_clean() {
+    if run_result.is_clean() {
         Verdict::Clean
     } else {
         Verdict::Faulty
     }
 }
 
-/// Returns the script in the tree of a document, its answers aside, with `test` in place of its own test if it is given. Errors: the first
-/// fault; `Missing` if there is no test; `Memory`.
+/// Returns the script in the tree of a document, without the key `answers`. If `test` is given, it replaces the script's own test. Errors:
+/// the first error of the script; `UnknownType` or `WrongKind` if the given test is not a declared component type; `Missing` if there is no
+/// test; `Memory` (out of memory).
 pub fn script_to_run(
     alloc: Global,
     root: &Table,
@@ -168,15 +169,7 @@ pub fn script_to_run(
     ensures tested { IfOk result (λ script. IsSome script.test) }
     ensures err { IfErr result (λ fault. fault ≢ ScriptFault.Memory → script_to_run (table_view root.now) (option_copied test.entry) ≡ Err fault) }
 {
-    let script = read_table(alloc, root, &[ANSWERS])?;
-    let script = match test {
-        Some(name) => script.with_test(name)?,
-        None => script,
-    };
-    match script.test() {
-        Some(_) => Ok(script),
-        None => Err(ScriptFault::Missing),
-    }
+    choose_test(read_table(alloc, root, &[ANSWERS])?, test)
 }
 
 // Runs a script with the objects of a document.
@@ -187,7 +180,7 @@ fn run_objects<R: Rng, S: Sink>(
     words: &mut R,
     trace: bool,
     out: &mut S,
-) -> Result<Ending, RunFault>
+) -> Result<RunResult, RunFault>
     requires { IsSome script.test }
     ensures run { IsScriptRun answers.now (R.stream words.old) script trace (S.contents out.old) (S.contents out.new) result }
     ensures texts { TookTexts script (S.taken out.old) (S.taken out.new) result }

@@ -1,44 +1,44 @@
-//! How the run of a document ends.
+//! The verdicts on a document.
 
 ghost use Rattle.std.specs.Prelude.{◌≡◌, OnOk};
 ghost use Rattle.std.specs.Io.KnownBytes.{Appends, Keeps};
 ghost use Rattle.script_jobs.specs.Verdicts.{fault_line, status_of};
 ghost use Rattle.script_jobs.specs.declared.verdicts.Verdict.TheVariants.{Broken as broken};
-ghost use Rattle.bus_jobs.specs.declared.verdicts.Breakage.TheVariants.{Memory as memory};
+ghost use Rattle.script_input.specs.declared.breakages.Breakage.TheVariants.{Memory as memory};
 
 use bench_script::ScriptFault;
-use bus_jobs::Breakage;
+use script_input::Breakage;
 use std::alloc::AllocError;
 use std::{fmt, io};
 use uvm_glob::Name;
 
-/// How the run of a document ended.
+/// The verdict on a document: how its run ended, or why there is none.
 #[derive(Drop)]
 pub enum Verdict {
-    /// The run finished, and no ERROR or FATAL was counted.
+    /// A run that finished with no ERROR and no FATAL counted.
     Clean,
-    /// An ERROR or a FATAL was counted, or the run did not finish.
+    /// A run with an ERROR or a FATAL counted, or that did not finish.
     Faulty,
-    /// The document is refused.
+    /// A rejected document.
     Refused(Refusal),
-    /// The run could not begin, or stopped before its end.
+    /// A run that could not begin, or that stopped before its end.
     Broken(Breakage),
 }
 
-/// Why a document is refused.
+/// The reason why a document is rejected.
 #[derive(Drop)]
 pub enum Refusal {
-    /// The document, its answers aside, is not a script, or has no test.
+    /// A document that, without `answers`, is not a script or has no test.
     Script(ScriptFault),
-    /// The script declares no type with this name, which is that of the test.
+    /// The name of a test that is not a declared type.
     UnknownTest(Name),
-    /// The value of `answers` is not a table.
+    /// A value of `answers` that is not a table.
     NoTable,
-    /// A type of this name has answers, and is not declared.
+    /// The name of a type that has answers but is not declared.
     UnknownType(Name),
-    /// A type of this name is declared, and has neither answers nor an object that is built in.
+    /// The name of a declared type that has neither answers nor a built-in object.
     NoObject(Name),
-    /// An entry of `answers` is at fault: the text says where and why.
+    /// The text of an error in an entry of `answers`: its place and its kind.
     Answers(String),
 }
 
@@ -86,8 +86,8 @@ impl Verdict {
         }
     }
 
-    /// Writes the line that says what is wrong with a file; writes nothing if nothing is. Errors: the writer's, which may then have taken a
-    /// part of the line.
+    /// Writes the error line of the verdict on a file; nothing for `Clean` and `Faulty`. Errors: the writer's, which may have taken a part of
+    /// the line.
     pub fn write_line<W: io::Write>(&self, file: &str, err: &mut W) -> io::Result<()>
         ensures clean { self.now ≡ Verdict.Clean → Keeps (W.contents err.old) (W.contents err.new) }
         ensures faulty { self.now ≡ Verdict.Faulty → Keeps (W.contents err.old) (W.contents err.new) }

@@ -1,13 +1,5 @@
 -- One more row that is read of the elements of an array.
-use Rattle.std.proofs.Common.{◌≡◌, ◌+◌, ◌∙◌, ◌<◌, ℕ, List, [], ◌∷◌, ◌++◌, drop, length, Result, Ok, suc, sym, ap, add-one}
-use Rattle.std.specs.List.{slice_index_or}
-use Rattle.std.proofs.Math.Seq.{drop-cons}
-use Rattle.toml.specs.Data.{Data}
-use Rattle.toml.specs.View.{view, items_view}
-use Rattle.toml.specs.declared.value.Value.{Value}
-use Rattle.script_values.specs.declared.faults.ScriptFault.{ScriptFault}
-use Rattle.script_values.specs.Reading.{and_then}
-use Rattle.script_values.specs.Elements.{rows_from}
+use Rattle.script_tables.proofs.Common.{◌≡◌, ◌+◌, ◌∙◌, ◌<◌, ℕ, List, [], ◌∷◌, ◌++◌, drop, length, Result, Ok, suc, sym, ap, add-one, slice_index_or, drop-cons, Data, view, items_view, Value, ScriptFault, and_then, rows_from}
 
 pub row-read : {Row : Type 0} (read : List Row → Data → Result Row ScriptFault) (whole : Result (List Row) ScriptFault) (rows more : List Row) (row : Row) (items : List Value) (i : ℕ) (item : Value)
     → i < length items → item ≡ slice_index_or items i item → whole ≡ rows_from read rows (items_view (drop i items)) → read rows (view item) ≡ Ok row → more ≡ rows ++ row ∷ []

@@ -1,4 +1,4 @@
--- The drain times that a script gives.
+-- The drain times that a script sets.
 use Rattle.std.specs.Prelude.{◌≡◌, ◌≤◌, ◌^◌, ◌&&◌, ℕ, Bool, true, nat_eq, List, [], ◌∷◌, reverse, Option, Result, Ok, ok_or, codes}
 use Rattle.std.specs.Cmp.Lexicographic.{pointwise}
 use Rattle.std.specs.List.{find}
@@ -7,27 +7,28 @@ use Rattle.toml.specs.Data.{Data, Members}
 use Rattle.uvm_phase.specs.declared.phases.Phase.{Phase}
 use Rattle.uvm_phase.specs.declared.phases.Phase.TheVariants.{Run}
 use Rattle.uvm_phase.specs.Phases.{is_task, phase_name, runtime_phases, same_phase}
-use Rattle.script_values.specs.declared.faults.ScriptFault.{ScriptFault}
-use Rattle.script_values.specs.declared.faults.ScriptFault.TheVariants.{OutOfRange}
+use Rattle.script_tables.specs.declared.faults.ScriptFault.{ScriptFault}
+use Rattle.script_tables.specs.declared.faults.ScriptFault.TheVariants.{OutOfRange}
 use Rattle.script_tables.specs.declared.drains.Drain.{Drain}
-use Rattle.script_values.specs.Reading.{and_then}
-use Rattle.script_values.specs.Values.{is_same_text, text_in, number_in, path_in}
-use Rattle.script_values.specs.Keys.{required}
-use Rattle.script_values.specs.Elements.{rows_from, elements_at, table_in}
+use Rattle.script_tables.specs.Reading.{and_then}
+use Rattle.script_tables.specs.Values.{is_same_text, text_in, number_in, path_in}
+use Rattle.script_tables.specs.Keys.{required}
+use Rattle.script_tables.specs.Elements.{rows_from, elements_at, table_in}
 
--- the greatest drain time in ticks
+-- the maximum drain time in ticks
 abbrev pub most_drain : ℕ
 most_drain = 10 ^ 15
 
--- a drain time is in range, and of a phase that takes time
+-- the phase of a drain time takes time, and the drain time is in range
 unfoldable pub CanDrain : Drain → Type 0
 CanDrain drain = (is_task drain.phase ≡ true) × (drain.ticks ≤ most_drain)
 
--- the phase of a name that takes time
+-- the phase with this name, of those that take time: the run phase and the run-time phases
 abbrev pub task_named : List ℕ → Option Phase
 task_named word = find (λ phase. is_same_text word (phase_name phase)) (Run ∷ runtime_phases)
 
--- the phase that a value names, of those that take time
+-- the phase that a value names, of those that take time; `WrongKind` if the value is not a text, `OutOfRange` if it names no such
+-- phase
 abbrev pub task_in : Data → Result Phase ScriptFault
 task_in value = and_then (text_in value) (λ word. ok_or (task_named word) OutOfRange)
 
@@ -44,10 +45,10 @@ drain_row element =
 abbrev pub drains_in : Members → Result (List Drain) ScriptFault
 drains_in root = and_then (elements_at (codes "drain") root) (rows_from (λ _. drain_row) [])
 
--- a drain time is that of the node at a path in a phase
+-- whether a drain time is that of a phase and of the component at a path
 abbrev pub is_drain_at : Phase → List (List ℕ) → Drain → Bool
 is_drain_at phase path drain = same_phase drain.phase phase && pointwise (pointwise nat_eq) drain.path path
 
--- of those that are, the last holds; where none is, there is none
+-- the drain time of a phase and a path in ticks: the last one that is given for them, or 0 if none is given
 abbrev pub drain_given : List Drain → Phase → List (List ℕ) → ℕ
 drain_given drains phase path = option_map_or (λ drain. drain.ticks) (find (is_drain_at phase path) (reverse drains)) 0

@@ -10,3 +10,8 @@ pub use Rattle.uvm_glob.specs.Names
 pub use Rattle.uvm_glob.specs.Paths
 pub use Rattle.uvm_report.specs.Severities
 pub mod Drains
+pub mod Elements
+pub mod FaultTexts
+pub mod Keys
+pub mod Reading
+pub mod Values

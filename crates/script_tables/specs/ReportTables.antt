@@ -8,48 +8,48 @@ use Rattle.uvm_report.specs.declared.severities.Severity.TheVariants.{Info, Warn
 use Rattle.uvm_report.specs.declared.settings.Which.{Which}
 use Rattle.uvm_report.specs.declared.settings.Which.TheVariants as which
 use Rattle.uvm_report.specs.Severities.{severity_name}
-use Rattle.script_values.specs.declared.faults.ScriptFault.{ScriptFault}
-use Rattle.script_values.specs.declared.faults.ScriptFault.TheVariants.{OutOfRange}
+use Rattle.script_tables.specs.declared.faults.ScriptFault.{ScriptFault}
+use Rattle.script_tables.specs.declared.faults.ScriptFault.TheVariants.{OutOfRange}
 use Rattle.script_tables.specs.declared.report_settings.VerbositySetting.{VerbositySetting}
 use Rattle.script_tables.specs.declared.report_settings.ActionSetting.{ActionSetting}
 use Rattle.script_tables.specs.declared.report_settings.SeverityChange.{SeverityChange}
 use Rattle.script_tables.specs.Rows.{most_level}
-use Rattle.script_values.specs.Reading.{and_then}
-use Rattle.script_values.specs.Values.{is_same_text, items_in, text_in, number_in, name_in, glob_in}
-use Rattle.script_values.specs.Keys.{required, optional, some_of}
-use Rattle.script_values.specs.Elements.{rows_from, elements_at, table_in}
+use Rattle.script_tables.specs.Reading.{and_then}
+use Rattle.script_tables.specs.Values.{is_same_text, items_in, text_in, number_in, name_in, glob_in}
+use Rattle.script_tables.specs.Keys.{required, optional, some_of}
+use Rattle.script_tables.specs.Elements.{rows_from, elements_at, table_in}
 
--- the severity of a name
+-- the severity with this name
 abbrev pub severity_named : List ℕ → Option Severity
 severity_named word = find (λ severity. is_same_text word (severity_name severity)) (Info ∷ Warning ∷ Error ∷ Fatal ∷ [])
 
--- the severity that a value names
+-- the severity that a value names; `WrongKind` if the value is not a text, `OutOfRange` if it names no severity
 abbrev pub severity_in : Data → Result Severity ScriptFault
 severity_in value = and_then (text_in value) (λ word. ok_or (severity_named word) OutOfRange)
 
--- the name at the key `id`, if it is there
+-- the name at the key `id`, if the key is present
 abbrev pub id_in : Members → Result (Option (List ℕ)) ScriptFault
 id_in table = optional (codes "id") None (some_of name_in) table
 
--- the reports of a severity and an id, where these are given
+-- the reports with a severity and an id, each if it is given
 abbrev pub which_of : Option Severity → Option (List ℕ) → Which
 which_of None None = which.All
 which_of (Some severity) None = which.Severity severity
 which_of None (Some id) = which.Id id
 which_of (Some severity) (Some id) = which.Both severity id
 
--- the reports that a table is for
+-- the reports to which a table applies
 abbrev pub which_in : Members → Result Which ScriptFault
 which_in table =
     and_then (id_in table) (λ id.
     and_then (optional (codes "severity") None (some_of severity_in) table) (λ severity.
     Ok (which_of severity id)))
 
--- the texts of an array
+-- the texts of an array; `WrongKind` if the value is not an array or an element is not a text
 abbrev pub texts_in : Data → Result (List (List ℕ)) ScriptFault
 texts_in value = and_then (items_in value) (rows_from (λ _. text_in) [])
 
--- a word is one of some words
+-- whether a text is in a list of words
 abbrev pub is_one_of : List (List ℕ) → List ℕ → Bool
 is_one_of words word = list_any (is_same_text word) words
 
@@ -57,7 +57,7 @@ is_one_of words word = list_any (is_same_text word) words
 abbrev pub action_words : List (List ℕ)
 action_words = codes "display" ∷ codes "count" ∷ codes "exit" ∷ []
 
--- the set of the actions that are named
+-- the set of the named actions; `OutOfRange` if a word names no action
 abbrev pub actions_named : List (List ℕ) → Result Actions ScriptFault
 actions_named words =
     if list_all (is_one_of action_words) words

@@ -8,18 +8,18 @@ use Rattle.uvm_factory.specs.Faults.{Types, most_types, type_named, override_fau
 use Rattle.uvm_config.specs.Answers.{most_settings}
 use Rattle.script_tables.specs.declared.rows.Probe.{Probe}
 use Rattle.script_tables.specs.declared.rows.Setting.{Setting}
-use Rattle.script_values.specs.declared.faults.ScriptFault.{ScriptFault}
-use Rattle.script_values.specs.declared.faults.ScriptFault.TheVariants.{WrongKind, BadName, UnknownType}
-use Rattle.script_values.specs.Reading.{and_then}
-use Rattle.script_values.specs.Values.{integer_in, flag_in, name_in, glob_in, path_in, kind_in}
-use Rattle.script_values.specs.Keys.{required, optional, some_of}
-use Rattle.script_values.specs.Elements.{rows_from, elements_at, few_elements_at, table_in}
+use Rattle.script_tables.specs.declared.faults.ScriptFault.{ScriptFault}
+use Rattle.script_tables.specs.declared.faults.ScriptFault.TheVariants.{WrongKind, BadName, UnknownType}
+use Rattle.script_tables.specs.Reading.{and_then}
+use Rattle.script_tables.specs.Values.{integer_in, flag_in, name_in, glob_in, path_in, kind_in}
+use Rattle.script_tables.specs.Keys.{required, optional, some_of}
+use Rattle.script_tables.specs.Elements.{rows_from, elements_at, few_elements_at, table_in}
 
--- the name of one more type
+-- the name of one more type; `BadName` if a type has this name
 abbrev pub new_name_in : Types → Data → Result (List ℕ) ScriptFault
 new_name_in types value = and_then (name_in value) (λ name. if is_some (type_named types name) then Err BadName else Ok name)
 
--- the place of the type that a value names
+-- the place of the type that a value names; `UnknownType` if no type has this name
 abbrev pub type_id_in : Types → Data → Result ℕ ScriptFault
 type_id_in types value = and_then (name_in value) (λ name. ok_or (type_named types name) UnknownType)
 
@@ -31,11 +31,11 @@ type_row types element =
     and_then (required (codes "kind") kind_in table) (λ kind.
     Ok (name, kind))))
 
--- an override goes from a type to one of its kind
+-- success if both types are registered and are of the same kind, otherwise `WrongKind`
 abbrev pub same_kinds : Types → ℕ → ℕ → Result (Unit {0}) ScriptFault
 same_kinds types original new = if is_none (override_fault types original new) then Ok tt else Err WrongKind
 
--- an override with a glob is an instance override
+-- the override with these parts: an instance override if it has a glob, otherwise a type override
 abbrev pub override_of : ℕ → ℕ → Option (List ℕ) → Bool → Override
 override_of original new None replace = Whole original new replace
 override_of original new (Some scope) replace = Instance original new scope
@@ -60,7 +60,7 @@ setting_row element =
     and_then (required (codes "value") integer_in table) (λ value.
     Ok (record { scope = scope; field = field; value = value })))))
 
--- the question to the factory that an element of the array `probe` gives
+-- the probe that an element of the array `probe` gives
 abbrev pub probe_row : Types → Data → Result Probe ScriptFault
 probe_row types element =
     and_then (table_in (codes "type" ∷ codes "path" ∷ []) element) (λ table.
@@ -80,6 +80,6 @@ overrides_in types root = and_then (elements_at (codes "override") root) (rows_f
 abbrev pub settings_in : Members → Result (List Setting) ScriptFault
 settings_in root = and_then (few_elements_at most_settings (codes "set") root) (rows_from (λ _. setting_row) [])
 
--- the questions to the factory that a script gives in the array `probe`
+-- the probes that a script gives in the array `probe`
 abbrev pub probes_in : Types → Members → Result (List Probe) ScriptFault
 probes_in types root = and_then (elements_at (codes "probe") root) (rows_from (λ _. probe_row types) [])

@@ -1,32 +1,32 @@
-//! Drain times that a script gives (IEEE 1800.2-2020, 10.5).
+//! The drain times of a script (IEEE 1800.2-2020, 10.5).
 
 ghost use Rattle.std.specs.Prelude.{◌≡◌, ◌≢◌, ◌≤◌, Ok, Err, MatchResult, IfOk, IfSome, All, true};
 ghost use Rattle.toml.specs.View.{view, table_view};
 ghost use Rattle.uvm_phase.specs.Phases.{is_task};
-ghost use Rattle.script_values.specs.Reading.{IsReading};
+ghost use Rattle.script_tables.specs.Reading.{IsReading};
 ghost use Rattle.script_tables.specs.Drains.{CanDrain, drain_row, drains_in, task_in, task_named};
 
-use script_values::ScriptFault;
-use script_values::keys::{elements, required, table};
-use script_values::values::{number, path, text};
+use crate::ScriptFault;
+use crate::keys::{elements, required, table};
+use crate::values::{number, path, text};
 use std::alloc::{AllocError, Global};
 use toml::{Table, Value};
 use uvm_glob::Path;
 use uvm_phase::{MAX_TICKS, Phase};
 
-/// The drain time of the node at a path, in a phase that takes time.
+/// The drain time of the component at a path, in a phase that takes time.
 #[derive(Drop)]
 pub struct Drain {
-    /// The path of the node.
+    /// The path of the component.
     pub path: Path,
-    /// The phase: run, or a run-time phase.
+    /// The phase: the run phase or a run-time phase.
     pub phase: Phase,
     /// The drain time in ticks, at most 10^15.
     pub ticks: u64,
 }
 
 impl Drain {
-    /// An equal drain time. Errors: out of memory.
+    /// Returns an equal drain time. Errors: out of memory.
     pub fn copy(&self) -> Result<Drain, AllocError>
         ensures { IfOk result (λ drain. drain ≡ self.now) }
     {
@@ -38,7 +38,8 @@ impl Drain {
     }
 }
 
-/// Reads the drain times, of the key `drain` of a document. The error is the first fault of a row, or out of memory.
+/// Reads the drain times from the array `drain` of a document, row by row. Errors: `WrongKind` if the value of the key is not an
+/// array; the first error of a row; out of memory.
 pub fn read_drains(alloc: Global, root: &Table) -> Result<Vec<Drain>, ScriptFault>
     ensures sound { IfOk result (λ rows. All CanDrain rows.items) }
     ensures rows { MatchResult result
@@ -64,7 +65,8 @@ fn drain_row(alloc: Global, element: &Value) -> Result<Drain, ScriptFault>
     Ok(Drain { path, phase, ticks })
 }
 
-// The phase that a value names, which takes time.
+// Returns the phase that a value names, which takes time. Errors: `WrongKind` if the value is not a text; `OutOfRange` if the
+// text names no such phase.
 fn task(value: &Value) -> Result<Phase, ScriptFault>
     ensures phase { result ≡ task_in (view value.now) }
     ensures task { IfOk result (λ phase. is_task phase ≡ true) }

@@ -1,4 +1,4 @@
-//! What a script sets for reports.
+//! The settings of a script for reports.
 
 ghost use Rattle.std.specs.Prelude.{◌≡◌, IfOk};
 
@@ -6,43 +6,43 @@ use std::alloc::AllocError;
 use uvm_glob::{Glob, Name};
 use uvm_report::{Actions, Severity, Which};
 
-/// The level of verbosity of reports at the paths that the glob matches (IEEE 1800.2-2020, Clause 6).
+/// The verbosity level of reports at the paths that the glob matches (IEEE 1800.2-2020, Clause 6).
 #[derive(Drop)]
 pub struct VerbositySetting {
-    /// The paths at which it holds.
+    /// The glob of the paths at which the setting applies.
     pub scope: Glob,
-    /// The reports that it is for.
+    /// The reports to which the setting applies.
     pub which: Which,
-    /// The level: a report whose verbosity is above it is dropped.
+    /// The verbosity level: a report with a verbosity above it is dropped.
     pub level: u16,
 }
 
-/// What is done with reports at the paths that the glob matches (IEEE 1800.2-2020, Clause 6).
+/// The actions for reports at the paths that the glob matches (IEEE 1800.2-2020, Clause 6).
 #[derive(Drop)]
 pub struct ActionSetting {
-    /// The paths at which it holds.
+    /// The glob of the paths at which the setting applies.
     pub scope: Glob,
-    /// The reports that it is for.
+    /// The reports to which the setting applies.
     pub which: Which,
-    /// What is done with them.
+    /// The actions for these reports.
     pub actions: Actions,
 }
 
-/// Another severity for reports at the paths that the glob matches (IEEE 1800.2-2020, Clause 6).
+/// A change of the severity of reports at the paths that the glob matches (IEEE 1800.2-2020, Clause 6).
 #[derive(Drop)]
 pub struct SeverityChange {
-    /// The paths at which it holds.
+    /// The glob of the paths at which the setting applies.
     pub scope: Glob,
     /// The severity with which the reports are issued.
     pub from: Severity,
-    /// The id of the reports, if it is not for every id.
+    /// The id of the reports, or `None` for every id.
     pub id: Option<Name>,
-    /// The severity that they have instead.
+    /// The severity that replaces it.
     pub to: Severity,
 }
 
 impl VerbositySetting {
-    /// An equal setting. Errors: out of memory.
+    /// Returns an equal setting. Errors: out of memory.
     pub fn copy(&self) -> Result<VerbositySetting, AllocError>
         ensures { IfOk result (λ setting. setting ≡ self.now) }
     {
@@ -55,7 +55,7 @@ impl VerbositySetting {
 }
 
 impl ActionSetting {
-    /// An equal setting. Errors: out of memory.
+    /// Returns an equal setting. Errors: out of memory.
     pub fn copy(&self) -> Result<ActionSetting, AllocError>
         ensures { IfOk result (λ setting. setting ≡ self.now) }
     {
@@ -68,7 +68,7 @@ impl ActionSetting {
 }
 
 impl SeverityChange {
-    /// An equal change. Errors: out of memory.
+    /// Returns an equal change. Errors: out of memory.
     pub fn copy(&self) -> Result<SeverityChange, AllocError>
         ensures { IfOk result (λ change. change ≡ self.now) }
     {

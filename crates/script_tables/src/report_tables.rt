@@ -3,23 +3,24 @@
 ghost use Rattle.std.specs.Prelude.{◌≡◌, ◌≢◌, MatchResult, IfOk, All, map, option_map};
 ghost use Rattle.std.specs.List.{list_all};
 ghost use Rattle.toml.specs.View.{view, table_view};
-ghost use Rattle.script_values.specs.Reading.{IsReading};
+ghost use Rattle.script_tables.specs.Reading.{IsReading};
 ghost use Rattle.script_tables.specs.Rows.{HasLevelInRange};
 ghost use Rattle.script_tables.specs.ReportTables.{severity_in, severity_named, id_in, which_in, texts_in, is_one_of, action_words, actions_named, action_set_in, verbosity_row, action_row, severity_row, verbosities_in, actions_in, severities_in};
 
+use crate::ScriptFault;
+use crate::keys::{elements, is_listed, member, required, table};
 use crate::report_settings::{ActionSetting, SeverityChange, VerbositySetting};
-use script_values::ScriptFault;
-use script_values::keys::{elements, is_listed, member, required, table};
-use script_values::values::{glob, name, number, text};
+use crate::values::{glob, name, number, text};
 use std::alloc::Global;
 use toml::{Table, Value};
 use uvm_glob::Name;
 use uvm_report::{Actions, Severity, Which};
 
-/// The greatest level of verbosity.
+/// The maximum verbosity level.
 const MAX_LEVEL: u64 = 10_000;
 
-/// Reads the levels of verbosity, of the key `verbosity` of a document. The error is the first fault of a row, or out of memory.
+/// Reads the verbosity settings from the array `verbosity` of a document, row by row. Errors: `WrongKind` if the value of the key
+/// is not an array; the first error of a row; out of memory.
 pub fn read_verbosities(alloc: Global, root: &Table) -> Result<Vec<VerbositySetting>, ScriptFault>
     ensures sound { IfOk result (λ rows. All HasLevelInRange rows.items) }
     ensures rows { MatchResult result
@@ -33,7 +34,8 @@ pub fn read_verbosities(alloc: Global, root: &Table) -> Result<Vec<VerbositySett
     Ok(rows)
 }
 
-/// Reads what is done with reports, of the key `action` of a document. The error is the first fault of a row, or out of memory.
+/// Reads the action settings from the array `action` of a document, row by row. Errors: `WrongKind` if the value of the key is
+/// not an array; the first error of a row; out of memory.
 pub fn read_actions(alloc: Global, root: &Table) -> Result<Vec<ActionSetting>, ScriptFault>
     ensures { MatchResult result
         (λ rows. actions_in (table_view root.now) ≡ Ok rows.items)
@@ -46,7 +48,8 @@ pub fn read_actions(alloc: Global, root: &Table) -> Result<Vec<ActionSetting>, S
     Ok(rows)
 }
 
-/// Reads the changes of severities, of the key `severity` of a document. The error is the first fault of a row, or out of memory.
+/// Reads the severity changes from the array `severity` of a document, row by row. Errors: `WrongKind` if the value of the key is
+/// not an array; the first error of a row; out of memory.
 pub fn read_severities(alloc: Global, root: &Table) -> Result<Vec<SeverityChange>, ScriptFault>
     ensures { MatchResult result
         (λ rows. severities_in (table_view root.now) ≡ Ok rows.items)
@@ -104,7 +107,7 @@ fn severity_row(alloc: Global, element: &Value) -> Result<SeverityChange, Script
     })
 }
 
-// The reports that a table is for.
+// Returns the reports to which a table applies. Errors: the error of `id`; the error of `severity`.
 fn which(table: &Table) -> Result<Which, ScriptFault>
     ensures { result ≡ which_in (table_view table.now) }
 {
@@ -148,14 +151,15 @@ fn severity_named(word: &str) -> Option<Severity>
     }
 }
 
-// The set of actions that an array lists. Each element is judged as a text before any is judged as a word.
+// Returns the set of actions that an array lists. It reads every element as a text before it checks that each text names an
+// action. Errors: `WrongKind`; `OutOfRange`; out of memory.
 fn actions(alloc: Global, value: &Value) -> Result<Actions, ScriptFault>
     ensures { IsReading (action_set_in (view value.now)) result }
 {
     actions_named(texts(alloc, value)?.as_slice())
 }
 
-// The texts of an array.
+// Returns the texts of an array. Errors: `WrongKind` if the value is not an array or an element is not a text; out of memory.
 fn texts<'a>(alloc: Global, value: &'a Value) -> Result<Vec<&'a str>, ScriptFault>
     ensures { MatchResult result
         (λ texts. texts_in (view value.now) ≡ Ok (map (λ text. text.now) texts.items))

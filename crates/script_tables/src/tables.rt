@@ -4,22 +4,23 @@ ghost use Rattle.std.specs.Prelude.{◌≡◌, ◌≢◌, ◌<◌, ◌≤◌, Ma
 ghost use Rattle.toml.specs.View.{view, table_view};
 ghost use Rattle.uvm_factory.specs.Faults.{type_named};
 ghost use Rattle.uvm_config.specs.Answers.{most_settings};
-ghost use Rattle.script_values.specs.Reading.{IsReading};
+ghost use Rattle.script_tables.specs.Reading.{IsReading};
 ghost use Rattle.script_tables.specs.Rows.{CanOverride, CanProbe};
 ghost use Rattle.script_tables.specs.Tables.{new_name_in, type_id_in, type_row, override_row, setting_row, probe_row, types_in, overrides_in, settings_in, probes_in};
 
+use crate::ScriptFault;
+use crate::keys::{elements, few_elements, member, required, table};
 use crate::rows::{Probe, Setting};
 use crate::type_tables::TypeTable;
-use script_values::ScriptFault;
-use script_values::keys::{elements, few_elements, member, required, table};
-use script_values::values::{flag, glob, integer, kind, name, path};
+use crate::values::{flag, glob, integer, kind, name, path};
 use std::alloc::Global;
 use toml::{Table, Value};
 use uvm_config::Settings;
 use uvm_factory::{Factory, Kind, Override, TypeId};
 use uvm_glob::Name;
 
-/// Reads the types, of the key `type` of a document. The error is the first fault of a row, or that there are too many; otherwise out of memory.
+/// Reads the types from the array `type` of a document, row by row. Errors: `WrongKind` if the value of the key is not an array;
+/// `OutOfRange` if it has more than `Factory::MAX_TYPES` rows; the first error of a row; out of memory.
 pub fn read_types(alloc: Global, root: &Table) -> Result<TypeTable, ScriptFault>
     ensures { IsReading (types_in (table_view root.now)) result }
 {
@@ -31,7 +32,8 @@ pub fn read_types(alloc: Global, root: &Table) -> Result<TypeTable, ScriptFault>
     Ok(types)
 }
 
-/// Reads the overrides, of the key `override` of a document whose types these are. The error is the first fault of a row, or out of memory.
+/// Reads the overrides from the array `override` of a document that has these types, row by row. Errors: `WrongKind` if the value
+/// of the key is not an array; the first error of a row; out of memory.
 pub fn read_overrides(
     alloc: Global,
     types: &TypeTable,
@@ -49,7 +51,8 @@ pub fn read_overrides(
     Ok(rows)
 }
 
-/// Reads the settings of the configuration, of the key `set` of a document. The error is the first fault of a row, or that there are too many; otherwise out of memory.
+/// Reads the settings of the configuration from the array `set` of a document, row by row. Errors: `WrongKind` if the value of
+/// the key is not an array; `OutOfRange` if it has more than `Settings::MAX_SETS` rows; the first error of a row; out of memory.
 pub fn read_settings(alloc: Global, root: &Table) -> Result<Vec<Setting>, ScriptFault>
     ensures few { IfOk result (λ rows. length rows.items ≤ most_settings) }
     ensures rows { MatchResult result
@@ -63,7 +66,8 @@ pub fn read_settings(alloc: Global, root: &Table) -> Result<Vec<Setting>, Script
     Ok(rows)
 }
 
-/// Reads the probes, of the key `probe` of a document whose types these are. The error is the first fault of a row, or out of memory.
+/// Reads the probes from the array `probe` of a document that has these types, row by row. Errors: `WrongKind` if the value of
+/// the key is not an array; the first error of a row; out of memory.
 pub fn read_probes(
     alloc: Global,
     types: &TypeTable,
@@ -91,7 +95,8 @@ fn type_row(types: &TypeTable, element: &Value) -> Result<(Name, Kind), ScriptFa
     Ok((name, kind))
 }
 
-// The name of one more type.
+// Returns the name of one more type. Errors: `WrongKind` if the value is not a text; `BadName` if the text is not a name or a
+// type has this name.
 fn new_name(types: &TypeTable, value: &Value) -> Result<Name, ScriptFault>
     ensures name { result ≡ new_name_in types.now (view value.now) }
     ensures new { IfOk result (λ name. type_named types.now name ≡ None) }
@@ -103,7 +108,8 @@ fn new_name(types: &TypeTable, value: &Value) -> Result<Name, ScriptFault>
     Ok(name)
 }
 
-// The type that a value names.
+// Returns the type that a value names. Errors: `WrongKind` if the value is not a text; `BadName` if the text is not a name;
+// `UnknownType` if no type has this name.
 fn type_named(types: &TypeTable, value: &Value) -> Result<TypeId, ScriptFault>
     ensures place { result ≡ type_id_in types.now (view value.now) }
     ensures known { IfOk result (λ type_id. type_id < length types.now) }

@@ -1,25 +1,5 @@
 -- What is said in two parts is told apart as a whole.
-use Rattle.std.proofs.Common.{◌≡◌, ◌∙◌, ℕ, Bool, true, false, not, ◌&&◌, ◌==◌, List, [], ◌∷◌, ◌++◌, filter, ap, refl, subst, sym, arith, append-nil}
-use Rattle.std.specs.List.{flat_map, list_all}
-use Rattle.std.proofs.lemmas.Bool.{and_from, and_parts}
-use Rattle.std.proofs.lemmas.Bool.Decides.{nat_tests}
-use Rattle.std.proofs.lemmas.Grind.{flat_map-append}
-use Rattle.std.proofs.lemmas.List.Elements.{filter-append}
-use Rattle.std.proofs.lemmas.List.Folds.{list_all-append}
-use Rattle.uvm_glob.specs.Lists.{newest}
-use Rattle.uvm_glob.specs.Printed.{is_printed_byte}
-use Rattle.uvm_report.specs.Lines.{line}
-use Rattle.uvm_report.specs.Plain.{ArePlainLines, begins_plain, is_plain}
-use Rattle.uvm_object.specs.declared.entries.Entry.{Entry}
-use Rattle.bench_script.specs.Scripts.{ScriptValue}
-use Rattle.bench_core.specs.Cores.{last_text}
-use Rattle.bench_run.specs.Running.{transcript}
-use Rattle.serve_dialogue.specs.Apart.{AreMarkedLines, TellsApart, is_marked, is_marked_line}
-use Rattle.serve_dialogue.specs.Dialogue.{answer_of, asked_in, dialogue, new_in, time_in, told_of}
-use Rattle.scripted_objects.specs.Answers.{TypeValue}
-use Rattle.serve_dialogue.specs.Scripted.{client_next}
-use Rattle.serve_dialogue.specs.Pipes.{said_in-append}
-use Rattle.serve_dialogue.specs.Spoken.{answered, said, said_in}
+use Rattle.serve_dialogue.proofs.Common.{◌≡◌, ◌∙◌, ℕ, Bool, true, false, not, ◌&&◌, ◌==◌, List, [], ◌∷◌, ◌++◌, filter, ap, refl, subst, sym, arith, flat_map, list_all, and_from, and_parts, nat_tests, flat_map-append, filter-append, list_all-append, newest, is_printed_byte, line, ArePlainLines, begins_plain, is_plain, Entry, ScriptValue, last_text, transcript, AreMarkedLines, TellsApart, is_marked, is_marked_line, answer_of, asked_in, dialogue, new_in, time_in, call_of_passage, TypeValue, client_next, said_in-append, answered, said, said_in, append-nil}
 use Rattle.serve_dialogue.proofs.PipeTalk.{said_in-answered, said_in-said}
 
 abbrev unmarked : List (List ℕ) → List (List ℕ)
@@ -83,17 +63,17 @@ plain-apart text plain = record { lines = plain.lines; printed = plain-printed p
 
 -- what is said of one more entry
 said-exchange : (answers : List TypeValue) (trace : Bool) (script : ScriptValue) (entry : Entry) (before : List Entry) → said_in (dialogue answers trace script (entry ∷ before))
-    ≡ said_in (dialogue answers trace script before) ++ (asked_in answers script before ++ told_of answers trace script entry before)
+    ≡ said_in (dialogue answers trace script before) ++ (asked_in answers script before ++ call_of_passage answers trace script entry before)
 said-exchange answers trace script entry before =
     let asked = said (asked_in answers script before) in
     let given = answered (answer_of (client_next answers script before) entry) in
-    let told = said (told_of answers trace script entry before) in
+    let told = said (call_of_passage answers trace script entry before) in
     said_in-append (dialogue answers trace script before) (asked ++ given ++ told)
     ∙ ap (λ text. said_in (dialogue answers trace script before) ++ text) (
     said_in-append (asked ++ given) told
     ∙ ap (λ text. text ++ said_in told) (said_in-append asked given ∙ ap (λ text. said_in asked ++ text) (said_in-answered (answer_of (client_next answers script before) entry)) ∙ append-nil (said_in asked))
     ∙ ap (λ text. text ++ said_in told) (said_in-said (asked_in answers script before))
-    ∙ ap (λ text. asked_in answers script before ++ text) (said_in-said (told_of answers trace script entry before))
+    ∙ ap (λ text. asked_in answers script before ++ text) (said_in-said (call_of_passage answers trace script entry before))
     )
 
 pub more_apart : (answers : List TypeValue) (trace : Bool) (script : ScriptValue) (entry : Entry) (before : List Entry) → TellsApart (said_in (dialogue answers trace script before)) (transcript trace script before) → AreMarkedLines (asked_in answers script before)

@@ -1,24 +1,7 @@
 -- What comes of a question.
-use Rattle.std.proofs.Common.{◌≡◌, ◌∙◌, ℕ, true, false, List, [], ◌++◌, Option, Some, None, IfSome, Result, Ok, Err, IfErr, OnOk, option_map, refl, append-nil, sym, ap, subst}
-use Rattle.std.specs.Prelude.{is_some}
-use Rattle.std.specs.Result.{IsErrAnd}
-use Rattle.uvm_acts.specs.declared.acts.Who.{Who}
-use Rattle.uvm_acts.specs.declared.acts.Call.{Call}
-use Rattle.uvm_object.specs.declared.entries.Entry.{Entry}
-use Rattle.uvm_object.specs.declared.entries.Origin.{Origin}
-use Rattle.bench_script.specs.Scripts.{ScriptValue}
+use Rattle.serve_dialogue.proofs.Common.{◌≡◌, ◌∙◌, ℕ, true, false, List, [], ◌++◌, Option, Some, None, IfSome, Result, Ok, Err, IfErr, OnOk, option_map, refl, sym, ap, subst, is_some, IsErrAnd, Who, Call, Entry, Origin, ScriptValue, need_in, next_of, Asked, Standing, call_of, need_of, TypeValue, rules_named, ScriptedValue, AreMarkedLines, ask_line, asked_in, backs_of, need_line, question_in, client_next, is_scripted, left_to_client, scripted_of, Spoken, answered, said, ServeError, Memory, append-nil}
 use Rattle.bench_history.specs.declared.needs.Need as declared
 use Rattle.bench_history.specs.Cases as next
-use Rattle.bench_history.specs.Next.{need_in, next_of}
-use Rattle.bench_core.specs.Cores.{Asked, Standing, call_of, need_of}
-use Rattle.scripted_objects.specs.Answers.{TypeValue, rules_named}
-use Rattle.scripted_objects.specs.Scripted.{ScriptedValue}
-use Rattle.serve_dialogue.specs.Apart.{AreMarkedLines}
-use Rattle.serve_dialogue.specs.Dialogue.{ask_line, asked_in, backs_of, need_line, question_in}
-use Rattle.serve_dialogue.specs.Scripted.{client_next, is_scripted, left_to_client, scripted_of}
-use Rattle.serve_dialogue.specs.Spoken.{Spoken, answered, said}
-use Rattle.serve_dialogue.specs.declared.errors.ServeError.{ServeError}
-use Rattle.serve_dialogue.specs.declared.errors.ServeError.TheVariants.{Memory}
 use Rattle.serve_dialogue.proofs.Marked.{marked-append}
 
 -- the question for an object of the client's

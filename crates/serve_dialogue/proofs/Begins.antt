@@ -1,12 +1,5 @@
 -- Before the first entry of a run.
-use Rattle.std.proofs.Common.{◌≡◌, ℕ, Bool, List, [], arith, refl}
-use Rattle.rand_core.specs.Stream.{Stream}
-use Rattle.bench_script.specs.Scripts.{ScriptValue}
-use Rattle.bench_run.specs.Words.{AreDrawn}
-use Rattle.client_answers.specs.Answers.{count_after}
-use Rattle.scripted_objects.specs.Answers.{TypeValue}
-use Rattle.serve_dialogue.specs.Served.{SpokeLog}
-use Rattle.serve_dialogue.specs.Spoken.{Spoken}
+use Rattle.serve_dialogue.proofs.Common.{◌≡◌, ℕ, Bool, List, [], arith, refl, Stream, ScriptValue, AreDrawn, count_after, TypeValue, SpokeLog, Spoken}
 
 -- no number was drawn
 pub drawn-none : {Words : Type 0} (stream : Words → Stream) (words : Words) → AreDrawn stream [] words words

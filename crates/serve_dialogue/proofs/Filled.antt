@@ -1,31 +1,7 @@
 -- One more entry, by what was needed or asked.
-use Rattle.std.proofs.Common.{◌≡◌, ◌∙◌, ◌+◌, ℕ, Bool, true, false, List, [], ◌∷◌, ◌++◌, length, Option, Some, None, All, IfSome, OnSome, append-nil, arith, refl, sym, ap, subst}
-use Rattle.std.specs.Prelude.{is_some}
-use Rattle.uvm_acts.specs.declared.acts.Act.{Act}
-use Rattle.uvm_acts.specs.declared.acts.Call.{Call}
-use Rattle.uvm_acts.specs.declared.acts.Who.{Who}
-use Rattle.uvm_object.specs.declared.fatals.Fatal.TheVariants.{NoObject}
-use Rattle.uvm_object.specs.declared.entries.Outcome.{Outcome}
-use Rattle.uvm_object.specs.declared.entries.Outcome.TheVariants.{Made, Refused, Started}
-use Rattle.uvm_object.specs.declared.entries.Origin.{Origin}
-use Rattle.uvm_object.specs.declared.entries.Entry.{Entry}
-use Rattle.uvm_object.specs.declared.entries.Entry.TheVariants.{Did, Heard}
-use Rattle.bench_script.specs.Scripts.{ScriptValue}
+use Rattle.serve_dialogue.proofs.Common.{◌≡◌, ◌∙◌, ◌+◌, ℕ, Bool, true, false, List, [], ◌∷◌, ◌++◌, length, Option, Some, None, All, IfSome, OnSome, arith, refl, sym, ap, subst, is_some, Act, Call, Who, NoObject, Outcome, Made, Refused, Started, Origin, Entry, Did, Heard, ScriptValue, declined_in, made_in, need_in, next_of, Asked, CoreValue, Standing, answer_in, core_after, made_who, IsTellingAct, answer_text, count_after, made_text, TypeValue, rules_named, RuleValue, ScriptedValue, acts_by, AreMarkedLines, IsTold, answer_of, asked_in, lines_of, new_if, new_in, new_line, says_made, IsByScript, client_next, is_scripted, left_to_client, scripted_of, Spoken, answered, said, Grows, append-nil}
 use Rattle.bench_history.specs.declared.needs.Need as declared
 use Rattle.bench_history.specs.Cases as next
-use Rattle.bench_history.specs.Next.{declined_in, made_in, need_in, next_of}
-use Rattle.bench_core.specs.Cores.{Asked, CoreValue, Standing, answer_in, core_after}
-use Rattle.bench_core.specs.Worlds.{made_who}
-use Rattle.client_answers.specs.Answers.{IsTellingAct, answer_text, count_after, made_text}
-use Rattle.scripted_objects.specs.Answers.{TypeValue, rules_named}
-use Rattle.scripted_objects.specs.Rules.{RuleValue}
-use Rattle.scripted_objects.specs.Scripted.{ScriptedValue}
-use Rattle.scripted_seats.specs.Seats.{acts_by}
-use Rattle.serve_dialogue.specs.Apart.{AreMarkedLines}
-use Rattle.serve_dialogue.specs.Dialogue.{IsTold, answer_of, asked_in, lines_of, new_if, new_in, new_line, says_made}
-use Rattle.serve_dialogue.specs.Scripted.{IsByScript, client_next, is_scripted, left_to_client, scripted_of}
-use Rattle.serve_dialogue.specs.Spoken.{Spoken, answered, said}
-use Rattle.serve_dialogue.specs.Steps.{Grows}
 use Rattle.serve_dialogue.proofs.Marked.{marked-none}
 
 -- no object is scripted for a type without answers
@@ -43,7 +19,7 @@ made-says need (Made type_name) performer act history who is = refl
 made-says need (Started id) performer act history who is = refl
 made-says need made performer act history who is = cc
 
--- nobody is new, if nothing comes
+-- no component or sequence is new, if nothing comes
 nobody-new : (made : Bool) (entry : Entry) (before : List Entry) → new_if made entry before next.Nothing ≡ []
 nobody-new true entry before = refl
 nobody-new false entry before = refl

@@ -1,30 +1,6 @@
 -- The run after one more entry.
-use Rattle.std.proofs.Common.{◌≡◌, ◌∙◌, ◌+◌, ℕ, Bool, true, length, Ok, List, ◌∷◌, ◌++◌, Option, Some, None, arith, refl, sym, ap, subst}
-use Rattle.std.specs.List.{cons_option}
-use Rattle.rand_core.specs.Stream.{Stream, next_u64}
-use Rattle.uvm_object.specs.declared.entries.Entry.{Entry}
-use Rattle.uvm_glob.specs.Lists.{newest}
-use Rattle.uvm_report.specs.Plain.{ArePlainLines}
-use Rattle.bench_script.specs.Scripts.{ScriptValue}
+use Rattle.serve_dialogue.proofs.Common.{◌≡◌, ◌∙◌, ◌+◌, ℕ, Bool, true, length, Ok, List, ◌∷◌, ◌++◌, Option, Some, None, arith, refl, sym, ap, subst, cons_option, Stream, next_u64, Entry, newest, ArePlainLines, ScriptValue, MachineEntriesAreSilent, EachIsNext, IsLegal, next_of, CoreValue, IsDrawn, core_after, last_text, word_in, MadeAreNew, NobodyIsMadeTwice, OthersMakeNobody, IsRunResult, summary_of, transcript, AreDrawn, HasWordsOf, log_words, stream_after, word_made, words_drawn, RunResult, count_after, TypeValue, rules_named, RuleValue, SeatsValue, AreMarkedLines, TellsApart, AreTold, answer_of, asked_in, dialogue, exchange, lines_answered, lines_of, new_in, time_in, told_last, call_of_passage, AreByScript, AreSeated, IsByScript, client_next, NeedFollows, SeatsFollow, IsServed, SpokeLog, Spoken, answered, said, said_in, Grows, HasEndedRun}
 use Rattle.bench_history.specs.Cases as next
-use Rattle.bench_history.specs.Laws.{MachineEntriesAreSilent}
-use Rattle.bench_history.specs.Next.{EachIsNext, IsLegal, next_of}
-use Rattle.bench_core.specs.Cores.{CoreValue, IsDrawn, core_after, last_text, word_in}
-use Rattle.bench_kernel.specs.Laws.{MadeAreNew, NobodyIsMadeTwice, OthersMakeNobody}
-use Rattle.bench_run.specs.Running.{IsEnding, summary_of, transcript}
-use Rattle.bench_run.specs.Words.{AreDrawn, HasWordsOf, log_words, stream_after, word_made, words_drawn}
-use Rattle.bench_run.specs.declared.endings.Ending.{Ending}
-use Rattle.client_answers.specs.Answers.{count_after}
-use Rattle.scripted_objects.specs.Answers.{TypeValue, rules_named}
-use Rattle.scripted_objects.specs.Rules.{RuleValue}
-use Rattle.scripted_seats.specs.Seats.{SeatsValue}
-use Rattle.serve_dialogue.specs.Apart.{AreMarkedLines, TellsApart}
-use Rattle.serve_dialogue.specs.Dialogue.{AreTold, answer_of, asked_in, dialogue, exchange, lines_answered, lines_of, new_in, time_in, told_last, told_of}
-use Rattle.serve_dialogue.specs.Scripted.{AreByScript, AreSeated, IsByScript, client_next}
-use Rattle.serve_dialogue.specs.Seating.{NeedFollows, SeatsFollow}
-use Rattle.serve_dialogue.specs.Served.{IsServed, SpokeLog}
-use Rattle.serve_dialogue.specs.Spoken.{Spoken, answered, said, said_in}
-use Rattle.serve_dialogue.specs.Steps.{Grows, HasEndedRun}
 use Rattle.serve_dialogue.proofs.ApartLines.{end_apart, more_apart}
 use Rattle.serve_dialogue.proofs.Seated.{seats_follow}
 
@@ -81,7 +57,7 @@ module _ {C : Type 0} (spoke : C → C → List Spoken → Type 0) (ended : C �
       let named : new.script ≡ script = ap (λ (c : CoreValue). c.script) grows.is ∙ same_script in
       let asked = said (asked_in answers old.script old.history) in
       let given = answered (answer_of (client_next answers old.script old.history) grows.entry) in
-      let told_so : spoke client' last (said (told_of answers trace script grows.entry old.history)) =
+      let told_so : spoke client' last (said (call_of_passage answers trace script grows.entry old.history)) =
       subst (λ text. spoke client' last (said text)) (
       ap (λ text. text ++ told_last trace new.script new.history) grows.left_is
       ∙ ap (λ (s : ScriptValue). new_in grows.entry old.history (client_next answers s old.history) ++ told_last trace new.script new.history) same_script
@@ -90,7 +66,7 @@ module _ {C : Type 0} (spoke : C → C → List Spoken → Type 0) (ended : C �
       ) told in
       let one : spoke client client' (said (asked_in answers script old.history) ++ answered (answer_of (client_next answers script old.history) grows.entry)) =
       subst (λ (s : ScriptValue). spoke client client' (said (asked_in answers s old.history) ++ answered (answer_of (client_next answers s old.history) grows.entry))) same_script grows.talk in
-      let both : spoke client last (exchange answers trace script grows.entry old.history) = joined client client' last _ (said (told_of answers trace script grows.entry old.history)) one told_so in
+      let both : spoke client last (exchange answers trace script grows.entry old.history) = joined client client' last _ (said (call_of_passage answers trace script grows.entry old.history)) one told_so in
       record {
         talk = subst (λ (h : List Entry). spoke first last (dialogue answers trace script h)) (sym history) (joined first client last (dialogue answers trace script old.history) (exchange answers trace script grows.entry old.history) before.talk both);
         lines =
@@ -132,11 +108,11 @@ module _ {Words : Type 0} (stream : Words → Stream) where
 
 -- the run as a whole
 pub served_whole : {C : Type 0} (spoke : C → C → List Spoken → Type 0) (ended : C → C → Type 0) (line : C → ℕ) (answers : List TypeValue)
-    → ((first half last : C) (front back : List Spoken) → spoke first half front → spoke half last back → spoke first last (front ++ back)) → (stream : Stream) (script : ScriptValue) (trace : Bool) (old new : CoreValue) (first client client' last : C) (ending : Ending)
+    → ((first half last : C) (front back : List Spoken) → spoke first half front → spoke half last back → spoke first last (front ++ back)) → (stream : Stream) (script : ScriptValue) (trace : Bool) (old new : CoreValue) (first client client' last : C) (run_result : RunResult)
     → old.script ≡ script → IsLegal old.script old.history → HasWordsOf stream old.history → AreTold answers script old.history → AreByScript answers script old.history → TellsApart (said_in (dialogue answers trace script old.history)) (transcript trace script old.history)
     → spoke first client (dialogue answers trace script old.history) → HasEndedRun spoke ended line answers old new client client' → spoke client' last (said (summary_of new.script new.history)) → ArePlainLines (summary_of new.script new.history)
-    → IsEnding ending new.script new.history → IsServed spoke ended line answers stream script trace first last (Ok ending)
-served_whole spoke ended line answers joined stream script trace old new first client client' last ending same legal words told by_script apart talk ends summed plain ending_is =
+    → IsRunResult run_result new.script new.history → IsServed spoke ended line answers stream script trace first last (Ok run_result)
+served_whole spoke ended line answers joined stream script trace old new first client client' last run_result same legal words told by_script apart talk ends summed plain run_result_is =
     let names : new.script ≡ script = ap (λ (c : CoreValue). c.script) ends.is ∙ same in
     let history : new.history ≡ old.history = ap (λ (c : CoreValue). c.history) ends.is in
     let summary : summary_of new.script new.history ≡ summary_of script old.history = ap (λ (s : ScriptValue). summary_of s new.history) names ∙ ap (summary_of script) history in
@@ -151,7 +127,7 @@ served_whole spoke ended line answers joined stream script trace old new first c
       by_script = by_script;
       apart = apart;
       leaves = (
-        subst (λ (s : ScriptValue). IsEnding ending s old.history) names (subst (λ (h : List Entry). IsEnding ending new.script h) history ending_is),
+        subst (λ (s : ScriptValue). IsRunResult run_result s old.history) names (subst (λ (h : List Entry). IsRunResult run_result new.script h) history run_result_is),
         joined first client' last (dialogue answers trace script old.history ++ said (asked_in answers script old.history)) (said (summary_of script old.history))
             (joined first client client' (dialogue answers trace script old.history) (said (asked_in answers script old.history)) talk asked_so) summed_so,
         end_apart (asked_in answers script old.history) (summary_of script old.history) (subst AreMarkedLines asked ends.asks) (subst ArePlainLines summary plain),

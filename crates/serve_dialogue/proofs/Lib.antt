@@ -1,6 +1,7 @@
 mod ApartLines
 mod Asks
 mod Begins
+mod Common
 mod Filled
 mod Grown
 mod Marked

@@ -1,26 +1,7 @@
 -- Questions and notices are printed lines that begin as such.
-use Rattle.std.proofs.Common.{◌≡◌, ◌∙◌, ℕ, true, List, [], ◌∷◌, ◌++◌, Some, Result, Ok, Err, OnOk, ap, refl, subst, sym, codes}
-use Rattle.std.specs.Fmt.{decimal}
-use Rattle.std.specs.List.{flat_map, list_all}
-use Rattle.std.proofs.lemmas.Bool.{and_from}
-use Rattle.std.proofs.lemmas.Grind.{flat_map-append}
-use Rattle.std.proofs.lemmas.List.{append-nil}
-use Rattle.std.proofs.lemmas.List.Folds.{list_all-append}
-use Rattle.uvm_factory.specs.declared.types.Kind.{Kind}
+use Rattle.serve_dialogue.proofs.Common.{◌≡◌, ◌∙◌, ℕ, true, List, [], ◌∷◌, ◌++◌, Some, Result, Ok, Err, OnOk, ap, refl, subst, sym, codes, decimal, flat_map, list_all, and_from, flat_map-append, list_all-append, Kind, Who, Call, Entry, Time, path_text, IsPrinted, is_printed_byte, call_text, who_text, line, nodes_of, sequences_of, AreMarkedLines, is_marked, is_marked_line, ask_line, back_line, kind_and_who, kind_of, kind_word, need_line, new_line, time_in, append-nil}
 use Rattle.uvm_factory.specs.declared.types.Kind.TheVariants as kind
-use Rattle.uvm_acts.specs.declared.acts.Who.{Who}
-use Rattle.uvm_acts.specs.declared.acts.Call.{Call}
-use Rattle.uvm_object.specs.declared.entries.Entry.{Entry}
-use Rattle.uvm_object.specs.declared.entries.Entry.TheVariants.{Time}
-use Rattle.uvm_glob.specs.Paths.{path_text}
-use Rattle.uvm_glob.specs.Printed.{IsPrinted, is_printed_byte}
-use Rattle.uvm_lines.specs.Lines.{call_text, who_text}
-use Rattle.uvm_report.specs.Lines.{line}
 use Rattle.bench_history.specs.declared.needs.Need as declared
-use Rattle.bench_history.specs.History.{nodes_of}
-use Rattle.bench_history.specs.Sequences.{sequences_of}
-use Rattle.serve_dialogue.specs.Apart.{AreMarkedLines, is_marked, is_marked_line}
-use Rattle.serve_dialogue.specs.Dialogue.{ask_line, back_line, kind_and_who, kind_of, kind_word, need_line, new_line, time_in}
 
 pub marked-none : AreMarkedLines []
 marked-none = record { lines = []; marked = refl; joined = refl }

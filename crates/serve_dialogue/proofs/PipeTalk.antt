@@ -1,17 +1,6 @@
 -- What passes through two pipes.
-use Rattle.std.proofs.Common.{◌≡◌, ℕ, List, [], ◌∷◌, length, Option, Result, Ok, Err, IfOk, IfErr, OnOk, refl, sym, ap, subst}
-use Rattle.std.specs.Io.KnownBytes.{Appends, Consumes}
-use Rattle.std.proofs.KnownBytes.{Appends-nil, Consumes-nil}
-use Rattle.client_lines.specs.Lines.{HasEnded, IsCutAt, IsCutShort}
-use Rattle.client_lines.specs.declared.errors.LineError.{LineError}
-use Rattle.client_lines.specs.declared.errors.LineError.TheVariants as line
-use Rattle.client_answers.specs.Answers.{BreaksOff, IsStop, NeitherStands}
-use Rattle.client_answers.specs.Readers.{ReaderValue}
-use Rattle.client_answers.specs.declared.errors.AnswerError.{AnswerError}
-use Rattle.client_answers.specs.declared.errors.AnswerError.TheVariants.{NoAct, NeitherMadeNorDeclined, TooManyActs, Unread}
-use Rattle.serve_dialogue.specs.Clients.{IsUnmade}
-use Rattle.serve_dialogue.specs.Pipes.{HasClosed, HasPassed, PipeValue}
-use Rattle.serve_dialogue.specs.Spoken.{answered, answered_in, said, said_in}
+use Rattle.serve_dialogue.proofs.Common.{◌≡◌, ℕ, List, [], ◌∷◌, length, Option, Result, Ok, Err, IfOk, IfErr, OnOk, refl, sym, ap, subst, Appends, Consumes, Appends-nil, Consumes-nil, HasEnded, IsCutAt, IsCutShort, LineError, BreaksOff, IsStop, NeitherStands, ReaderValue, AnswerError, NoAct, NeitherMadeNorDeclined, TooManyActs, Unread, IsUnmade, HasClosed, HasPassed, PipeValue, answered, answered_in, said, said_in}
+use Rattle.serve_answers.specs.declared.lines.errors.LineError.TheVariants as line
 
 pub said_in-said : (text : List ℕ) → said_in (said text) ≡ text
 said_in-said [] = refl

@@ -1,34 +1,6 @@
 -- The scripted objects after an entry.
-use Rattle.std.proofs.Common.{◌≡◌, ◌∙◌, ℕ, true, false, ◌==◌, if◌then◌else◌, List, [], ◌∷◌, ◌++◌, Option, Some, None, OnSome, option_map, inl, inr, refl, sym, ap, subst, arith}
-use Rattle.std.specs.Prelude.{option_and_then}
-use Rattle.std.specs.List.{AllByRecursion, IsDistinct}
-use Rattle.std.specs.Map.{keys_of, lookup}
-use Rattle.std.proofs.lemmas.Bool.{and_parts, cases_Bool, eqb-true}
-use Rattle.std.proofs.lemmas.Bool.Decides.{nat_tests}
-use Rattle.uvm_acts.specs.declared.acts.Act.{Act}
-use Rattle.uvm_acts.specs.declared.acts.Call.{Call}
-use Rattle.uvm_acts.specs.declared.acts.Who.{Who}
-use Rattle.uvm_acts.specs.declared.acts.Who.TheVariants.{Node, Sequence}
-use Rattle.uvm_object.specs.Objects.{Exchange, exchanged_in, life_of, same_who}
-use Rattle.uvm_object.specs.declared.fatals.Fatal.TheVariants.{NoObject}
-use Rattle.uvm_object.specs.declared.entries.Outcome.{Outcome}
-use Rattle.uvm_object.specs.declared.entries.Outcome.TheVariants.{Made, Refused, Started}
-use Rattle.uvm_object.specs.declared.entries.Origin.{Origin}
-use Rattle.uvm_object.specs.declared.entries.Entry.{Entry}
-use Rattle.uvm_object.specs.declared.entries.Entry.TheVariants.{Did, Heard}
-use Rattle.bench_script.specs.Scripts.{ScriptValue}
-use Rattle.bench_history.specs.Cases.{Answer, Exactly, Grant, Need, Next, Nothing}
-use Rattle.bench_history.specs.Laws.{IsMachines, MachineEntriesAreSilent}
-use Rattle.bench_history.specs.Next.{Allows, EachIsNext, made_in, need_in, next_of}
-use Rattle.bench_core.specs.Worlds.{made_who}
-use Rattle.bench_kernel.specs.Kernels.{needed_type, types_made}
-use Rattle.bench_kernel.specs.Laws.{IsMadeNew, MadeAreNew, NobodyIsMadeTwice, OthersMakeNobody}
-use Rattle.scripted_objects.specs.Answers.{TypeValue, rules_named}
-use Rattle.scripted_objects.specs.Rules.{RuleValue}
-use Rattle.scripted_objects.specs.Scripted.{ScriptedValue, new_of}
-use Rattle.scripted_seats.specs.Seats.{ChangesAt, SeatsValue, object_after, object_of}
-use Rattle.serve_dialogue.specs.Scripted.{AreSeated, IsByScript, after_calls, of_type, scripted_of, type_of}
-use Rattle.serve_dialogue.specs.Seating.{NeedFollows, SeatsFollow}
+use Rattle.serve_dialogue.proofs.Common.{◌≡◌, ◌∙◌, ℕ, true, false, ◌==◌, if◌then◌else◌, List, [], ◌∷◌, ◌++◌, Option, Some, None, OnSome, option_map, inl, inr, refl, sym, ap, subst, arith, option_and_then, AllByRecursion, IsDistinct, keys_of, lookup, and_parts, cases_Bool, eqb-true, nat_tests, Act, Call, Who, Node, Sequence, Exchange, exchanged_in, life_of, same_who, NoObject, Outcome, Made, Refused, Started, Origin, Entry, Did, Heard, ScriptValue, Answer, Exactly, Grant, Need, Next, IsMachines, MachineEntriesAreSilent, Allows, EachIsNext, made_in, need_in, next_of, made_who, needed_type, types_made, IsMadeNew, MadeAreNew, NobodyIsMadeTwice, OthersMakeNobody, TypeValue, rules_named, RuleValue, ScriptedValue, new_of, ChangesAt, SeatsValue, object_after, object_of, AreSeated, IsByScript, after_calls, of_type, scripted_of, type_of, NeedFollows, SeatsFollow}
+use Rattle.bench_history.specs.Cases.{Nothing}
 
 -- WHO IS WHO
 
@@ -49,7 +21,7 @@ same-is (Sequence home id) (Node b) same = cc
 -- THE OBJECT OF EACH
 
 module _ (answers : List TypeValue) (script : ScriptValue) where
-  -- an entry that calls nobody and makes nobody
+  -- an entry that calls no component or sequence and makes no component or sequence
   scripted-same : (entry : Entry) (history : List Entry) → types_made script (entry ∷ history) ≡ types_made script history → ((who : Who) → exchanged_in who entry ≡ [])
       → (who : Who) → scripted_of answers script (entry ∷ history) who ≡ scripted_of answers script history who
   scripted-same entry history types silent who =
@@ -148,7 +120,7 @@ module _ (silent : MachineEntriesAreSilent) (new_made : MadeAreNew) (others : Ot
           types_are : (who : Who) → IsMadeNew script history entry who → types_made script (entry ∷ history) ≡ (who, need.type_name) ∷ types_made script history
           types_are who one = one.types ∙ ap (λ name. (who, name) ∷ types_made script history) named
 
-          -- nobody was this one before
+          -- no component or sequence was this one before
           free : (who : Who) → IsMadeNew script history entry who → scripted_of old.answers script history who ≡ None
           free who one =
               let distinct : IsDistinct same_who (keys_of ((who, need.type_name) ∷ types_made script history)) = subst (λ (all : List (Who × List ℕ)). IsDistinct same_who (keys_of all)) (types_are who one) (once script (entry ∷ history) each).distinct in

@@ -1,28 +1,8 @@
 -- What a turn of the machine says of what comes next.
-use Rattle.std.proofs.Common.{◌≡◌, ◌∙◌, ℕ, Bool, true, false, List, [], ◌∷◌, ◌++◌, Option, Some, Ok, filter, if◌then◌else◌, refl, sym, ap, subst, append-nil, arith}
-use Rattle.std.specs.List.{flat_map}
-use Rattle.uvm_acts.specs.declared.acts.Who.{Who}
-use Rattle.uvm_acts.specs.declared.acts.Call.{Call}
-use Rattle.uvm_object.specs.declared.entries.Entry.{Entry}
-use Rattle.uvm_object.specs.declared.entries.Origin.{Origin}
-use Rattle.bench_script.specs.Scripts.{ScriptValue}
+use Rattle.serve_dialogue.proofs.Common.{◌≡◌, ◌∙◌, ℕ, Bool, true, false, List, [], ◌∷◌, ◌++◌, Option, Some, Ok, filter, if◌then◌else◌, refl, sym, ap, subst, arith, flat_map, Who, Call, Entry, Origin, ScriptValue, is_over, need_in, next_of, leaving_of, Asked, CoreValue, IsNextTurn, IsToldTurn, IsTurn, Needed, Standing, core_after, count_after, TypeValue, SeatsValue, AreMarkedLines, IsTold, answer_of, asked_in, back_line, backs_of, is_clients, lines_of, new_if, new_in, question_in, says_made, AreSeated, IsByScript, client_next, is_scripted, left_to_client, SeatsFollow, Spoken, answered, said, AsksNext, Grows, Halts, HasEndedRun, ServeError, append-nil, Nothing}
 use Rattle.bench_history.specs.declared.needs.Need as declared
-use Rattle.bench_history.specs.History.{is_over}
 use Rattle.bench_history.specs.Cases as next
-use Rattle.bench_history.specs.Next.{need_in, next_of}
-use Rattle.bench_history.specs.Sequences.{leaving_of}
-use Rattle.bench_core.specs.Cores.{Asked, CoreValue, IsNextTurn, IsToldTurn, IsTurn, Needed, Nothing, Standing, core_after}
 use Rattle.bench_core.specs.declared.cores.Turn as turn
-use Rattle.client_answers.specs.Answers.{count_after}
-use Rattle.scripted_objects.specs.Answers.{TypeValue}
-use Rattle.scripted_seats.specs.Seats.{SeatsValue}
-use Rattle.serve_dialogue.specs.Apart.{AreMarkedLines}
-use Rattle.serve_dialogue.specs.Dialogue.{IsTold, answer_of, asked_in, back_line, backs_of, is_clients, lines_of, new_if, new_in, question_in, says_made}
-use Rattle.serve_dialogue.specs.Scripted.{AreSeated, IsByScript, client_next, is_scripted, left_to_client}
-use Rattle.serve_dialogue.specs.Seating.{SeatsFollow}
-use Rattle.serve_dialogue.specs.Spoken.{Spoken, answered, said}
-use Rattle.serve_dialogue.specs.Steps.{AsksNext, Grows, Halts, HasEndedRun}
-use Rattle.serve_dialogue.specs.declared.errors.ServeError.{ServeError}
 use Rattle.serve_dialogue.proofs.Marked.{marked-none}
 
 -- no sequence is told by this turn

@@ -1,16 +1,16 @@
--- What the calls of a client come to.
+-- The errors of reading the answer of a client.
 use Rattle.std.specs.Prelude.{ℕ, List}
-use Rattle.client_answers.specs.Answers.{NeitherStands}
-use Rattle.client_answers.specs.declared.errors.AnswerError.{AnswerError}
-use Rattle.client_answers.specs.declared.errors.AnswerError.TheVariants.{Unread}
-use Rattle.client_lines.specs.declared.errors.LineError.TheVariants.{Unreadable}
+use Rattle.serve_answers.specs.Answers.{NeitherStands}
+use Rattle.serve_answers.specs.declared.errors.AnswerError.{AnswerError}
+use Rattle.serve_answers.specs.declared.errors.AnswerError.TheVariants.{Unread}
+use Rattle.serve_answers.specs.declared.lines.errors.LineError.TheVariants.{Unreadable}
 
--- why there is no answer to a need, by what was read: a line that is neither `made` nor `declined`, or none
+-- a request for an object has no answer: a text was read that is neither `made` nor `declined`, or no whole line was read
 pub record IsUnmade (error : AnswerError) (IsGone : List ℕ → Type 0) (HasEnded : Type 0) : Type 0 where
   pub text : List ℕ
   pub why : NeitherStands error text IsGone HasEnded
 
--- the client is not to blame: it could not be read
+-- the error is that the answers could not be read; the client did not cause it
 abbrev pub IsUnreadable : AnswerError → Type 0
 IsUnreadable (Unread line Unreadable) = Unit {0}
 IsUnreadable other = ⊥

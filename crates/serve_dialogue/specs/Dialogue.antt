@@ -1,5 +1,5 @@
--- The dialogue of a log: what the kernel says and what the client answers, in the order of time. It is a function of the log and of the types that have
--- answers, whose objects are scripted: the client takes no part in what is for them.
+-- The dialogue of a log: what the kernel says and what the client answers, in the order of time. It is a function of the log and of the types
+-- that have answers. Their objects are scripted: the kernel holds them, and the client takes no part in requests for them.
 use Rattle.std.specs.Prelude.{ℕ, ◌+◌, Bool, true, false, List, [], ◌∷◌, ◌++◌, length, All, Option, Some, None, filter, is_none, codes}
 use Rattle.std.specs.List.{flat_map}
 use Rattle.std.specs.Fmt.{decimal}
@@ -21,35 +21,35 @@ use Rattle.bench_history.specs.Sequences.{sequences_of, leaving_of}
 use Rattle.bench_history.specs.Cases as next
 use Rattle.bench_core.specs.Cores.{last_text}
 use Rattle.bench_core.specs.Worlds.{made_who}
-use Rattle.client_answers.specs.Answers.{IsTellingAct, answer_text, made_text}
-use Rattle.scripted_objects.specs.Answers.{TypeValue}
+use Rattle.serve_answers.specs.Answers.{IsTellingAct, answer_text, made_text}
+use Rattle.script_objects.specs.Answers.{TypeValue}
 use Rattle.serve_dialogue.specs.Scripted.{client_next, scripted_of}
 use Rattle.serve_dialogue.specs.Spoken.{Spoken, answered, said}
 
 -- WHAT THE KERNEL SAYS
 
--- the word for a component or for a sequence
+-- the word for a component or a sequence, and a blank
 abbrev pub kind_word : Kind → List ℕ
 kind_word kind.Component = codes "component "
 kind_word kind.Sequence = codes "sequence "
 
--- whether it is a component or a sequence
+-- whether `Who` is a component or a sequence
 abbrev pub kind_of : Who → Kind
 kind_of (who.Node node) = kind.Component
 kind_of (who.Sequence home id) = kind.Sequence
 
--- a component or a sequence, after the word that says which
+-- the text of a component or a sequence, after the word for its kind
 abbrev pub kind_and_who : List Entry → Who → List ℕ
 kind_and_who history one = kind_word (kind_of one) ++ who_text (nodes_of history) (sequences_of history) one
 
--- the question for an object, and for the answer to a call
+-- the line that requests an object (`need_line`), or the answer to a call (`ask_line`), with its newline
 abbrev pub need_line : declared.Need → List ℕ
 need_line need = codes "? need " ++ kind_word need.kind ++ need.type_name ++ 32 ∷ path_text need.path ++ 10 ∷ []
 
 abbrev pub ask_line : List Entry → Who → Call → List ℕ
 ask_line history hearer call = codes "? ask " ++ kind_and_who history hearer ++ 32 ∷ call_text call ++ 10 ∷ []
 
--- the question that comes next, if one does
+-- the request that comes next; empty if none does
 abbrev pub question_in : List Entry → next.Next → List ℕ
 question_in history (next.Answer hearer call origin) = ask_line history hearer call
 question_in history (next.Need need made performer act) = need_line need
@@ -59,26 +59,26 @@ question_in history other = []
 abbrev pub back_line : List Entry → Who → List ℕ
 back_line history one = codes "! back " ++ kind_and_who history one ++ 10 ∷ []
 
--- whether the object of a component or a sequence is the client's
+-- whether the client holds the object of a component or a sequence: it is not scripted
 abbrev pub is_clients : List TypeValue → ScriptValue → List Entry → Who → Bool
 is_clients answers script history one = is_none (scripted_of answers script history one)
 
--- the notices of those of the sequences that the newest entry has ended whose objects are the client's
+-- the notices of the sequences that ended with the newest entry and whose objects the client holds
 abbrev pub backs_of : List TypeValue → ScriptValue → List Entry → List ℕ
 backs_of answers script history = flat_map (back_line history) (filter (is_clients answers script history) (leaving_of history))
 
--- the notice of an object that was made
+-- the notice of a new object; empty without one
 abbrev pub new_line : List Entry → Option Who → List ℕ
 new_line history None = []
 new_line history (Some one) = codes "! new " ++ kind_and_who history one ++ 10 ∷ []
 
--- whether the entry that answers a need says that the object was made
+-- whether the entry for a requested object shows that it was made
 abbrev pub says_made : Entry → Bool
 says_made (Did performer (Made type_name) act) = true
 says_made (Did performer (Started id) act) = true
 says_made other = false
 
--- its notice, if an object was needed and was made
+-- the notice of the requested object after an entry (`new_in`); empty if the entry does not show that it was made
 abbrev pub new_if : Bool → Entry → List Entry → next.Next → List ℕ
 new_if true entry before comes = new_line (entry ∷ before) (made_who before comes)
 new_if false entry before comes = []
@@ -88,58 +88,58 @@ new_in entry before comes = new_if (says_made entry) entry before comes
 
 -- WHAT THE CLIENT ANSWERS
 
--- its answer to what came next, by the entry that was made of it
+-- the answer of the client to what came next, as the entry that follows from it shows
 abbrev pub answer_of : next.Next → Entry → List ℕ
 answer_of (next.Answer hearer call origin) (Heard one cause said acts) = answer_text acts
 answer_of (next.Need need made performer act) entry = made_text (says_made entry)
 answer_of other entry = []
 
--- how many lines that is
+-- the number of lines of that answer
 abbrev pub lines_of : next.Next → Entry → ℕ
 lines_of (next.Answer hearer call origin) (Heard one cause said acts) = length acts + 1
 lines_of (next.Need need made performer act) entry = 1
 lines_of other entry = 0
 
--- all lines that the client has answered in a log
+-- the number of lines of all answers of the client in a log
 abbrev pub lines_answered : List TypeValue → ScriptValue → List Entry → ℕ
 lines_answered answers script [] = 0
 lines_answered answers script (entry ∷ before) = lines_answered answers script before + lines_of (client_next answers script before) entry
 
--- the actions of an answer are told by its text
+-- an entry for an answer has only actions that their lines determine
 abbrev pub IsTold : next.Next → Entry → Type 0
 IsTold (next.Answer hearer call origin) (Heard one cause said acts) = All IsTellingAct acts
 IsTold other entry = Unit {0}
 
--- and so are those of each answer in a log
+-- each answer of the client in a log has only such actions
 abbrev pub AreTold : List TypeValue → ScriptValue → List Entry → Type 0
 AreTold answers script [] = Unit {0}
 AreTold answers script (entry ∷ before) = IsTold (client_next answers script before) entry × AreTold answers script before
 
 -- THE DIALOGUE
 
--- what is asked before the next entry: first the notices of the sequences that have ended, then the question
+-- the text before the next entry: the notices of the sequences that have ended, then the request
 abbrev pub asked_in : List TypeValue → ScriptValue → List Entry → List ℕ
 asked_in answers script history = backs_of answers script history ++ question_in history (client_next answers script history)
 
--- the notice that time passes, if the newest entry says so
+-- the notice of the new time in ticks, if the newest entry is a time entry; otherwise empty
 abbrev pub time_in : Option Entry → List ℕ
 time_in (Some (Time time)) = codes "! time " ++ decimal time ++ 10 ∷ []
 time_in entry = []
 
--- what is said of the newest entry: the time, the line of the entry, and that of its report
+-- the text for the newest entry: the notice of the time, the line of the entry, and the line of its report
 abbrev pub told_last : Bool → ScriptValue → List Entry → List ℕ
 told_last trace script history = time_in (newest history) ++ last_text trace script history
 
--- and before that the object that was made
-abbrev pub told_of : List TypeValue → Bool → ScriptValue → Entry → List Entry → List ℕ
-told_of answers trace script entry before = new_in entry before (client_next answers script before) ++ told_last trace script (entry ∷ before)
+-- the text after an entry: the notice of the object that was made, then `told_last`
+abbrev pub call_of_passage : List TypeValue → Bool → ScriptValue → Entry → List Entry → List ℕ
+call_of_passage answers trace script entry before = new_in entry before (client_next answers script before) ++ told_last trace script (entry ∷ before)
 
--- what is asked before an entry, then answered, and then said of it
+-- the exchange for an entry: the text before it, the answer of the client, and the text after it
 abbrev pub exchange : List TypeValue → Bool → ScriptValue → Entry → List Entry → List Spoken
 exchange answers trace script entry before =
-    said (asked_in answers script before) ++ answered (answer_of (client_next answers script before) entry) ++ said (told_of answers trace script entry before)
+    said (asked_in answers script before) ++ answered (answer_of (client_next answers script before) entry) ++ said (call_of_passage answers trace script entry before)
 
--- the dialogue of a log: that of each entry, in order
+-- the dialogue of a log: the exchange for each entry, in order
 abbrev pub dialogue : List TypeValue → Bool → ScriptValue → List Entry → List Spoken
 dialogue answers trace script [] = []
 dialogue answers trace script (entry ∷ before) = dialogue answers trace script before ++ exchange answers trace script entry before

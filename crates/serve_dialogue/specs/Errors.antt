@@ -1,6 +1,6 @@
--- The texts of errors, and which lines they are about.
+-- The texts of errors, and the lines that they concern.
 use Rattle.std.specs.Prelude.{ℕ, List, codes}
-use Rattle.client_answers.specs.Errors as answers
+use Rattle.serve_answers.specs.Errors as answers
 use Rattle.serve_dialogue.specs.declared.errors.ServeError.{ServeError}
 use Rattle.serve_dialogue.specs.declared.errors.ServeError.TheVariants.{Memory, LogFull, Output, NoTest, NoAnswer}
 

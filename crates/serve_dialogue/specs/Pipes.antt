@@ -1,28 +1,28 @@
--- What contracts see of two pipes.
+-- The value of two pipes in contracts.
 use Rattle.std.specs.Prelude.{◌≡◌, ℕ, List, [], ◌∷◌, ◌++◌, Option, refl}
 use Rattle.std.specs.Io.KnownBytes.{Appends, Consumes}
 use Rattle.std.proofs.Common.{ap, subst, sym}
 use Rattle.std.proofs.KnownBytes.{Appends-nil, Appends-trans, Consumes-nil, Consumes-trans}
-use Rattle.client_lines.specs.Lines.{HasEnded}
-use Rattle.client_answers.specs.Readers.{ReaderValue}
+use Rattle.serve_answers.specs.Lines.{HasEnded}
+use Rattle.serve_answers.specs.Readers.{ReaderValue}
 use Rattle.serve_dialogue.specs.Spoken.{Answered, Said, Spoken, answered_in, said_in}
 
--- the reader of the client's answers, and the writer that the client reads
+-- the value of a pipe client: the reader of the client's answers, and the writer that the client reads
 pub record PipeValue (R W : Type 0) : Type 0 where
   pub answers : ReaderValue R
   pub output : W
 
 module _ {R W : Type 0} (remaining : R → Option (List ℕ)) (contents : W → Option (List ℕ)) where
-  -- the output grew by what was said, and the input lost what was answered
+  -- the output grew by what the kernel said, and the input lost what the client answered
   abbrev pub HasPassed : PipeValue R W → PipeValue R W → List Spoken → Type 0
   HasPassed old new talk =
       Appends (contents old.output) (contents new.output) (said_in talk) × Consumes (remaining old.answers.reader) (remaining new.answers.reader) (answered_in talk)
 
-  -- nothing is left of the input
+  -- the input has ended: no byte of it is left
   abbrev pub HasClosed : PipeValue R W → PipeValue R W → Type 0
   HasClosed old new = HasEnded (remaining old.answers.reader) (remaining new.answers.reader)
 
--- both parts of a talk
+-- what both sides said in two talks, one after the other
 
 pub said_in-append : (front back : List Spoken) → said_in (front ++ back) ≡ said_in front ++ said_in back
 said_in-append [] back = refl

@@ -1,41 +1,41 @@
-//! A client, as the kernel sees it.
+//! The client, as the kernel sees it.
 
-use client_answers::AnswerError;
+use serve_answers::AnswerError;
 use std::io;
 use uvm_object::Acts;
 
-/// The program in which the objects of a testbench live, as the kernel sees it: it takes lines, and answers questions.
+/// The program that holds the objects of a testbench, as the kernel sees it. It receives lines and answers requests.
 ///
-/// A run is proved over every client. So each question is said, and is sent, before its answer is read: a client knows in which order
-/// its calls come. [`Pipe`](crate::Pipe) is the client at the other end of two pipes.
+/// A run is proved for every client. Each request is said and sent before its answer is read, so the client knows the order of its calls.
+/// [`Pipe`](crate::Pipe) is a client at the other end of two pipes.
 pub trait Client {
     ghost use Rattle.std.specs.Prelude.{◌≡◌, ◌+◌, ◌++◌, ◌≤◌, ℕ, List, [], All, IfErr, IfOk, OnErr, OnOk, length};
-    ghost use Rattle.client_answers.specs.Answers.{BreaksOff, IsTellingAct, answer_text, count_after, made_text};
-    ghost use Rattle.client_answers.specs.Errors.{line_in};
+    ghost use Rattle.serve_answers.specs.Answers.{BreaksOff, IsTellingAct, answer_text, count_after, made_text};
+    ghost use Rattle.serve_answers.specs.Errors.{line_in};
     ghost use Rattle.serve_dialogue.specs.Clients.{IsUnmade, IsUnreadable};
     ghost use Rattle.serve_dialogue.specs.Spoken.{Spoken, answered, said};
 
-    /// What was spoken between two states of the client, in the order of time.
+    /// What the kernel and the client said between two states of the client, in the order of time.
     ghost spoke: { Self → Self → List Spoken → Type 0 };
 
-    /// That the answers of the client have ended between two states.
+    /// The property that the answers of the client ended between two states.
     ghost ended: { Self → Self → Type 0 };
 
-    /// The number of the client's line that was read last, from 1; 0 before the first. It stays at the greatest number.
+    /// The number of the client's line that was read last, from 1; 0 before the first line. It stays at the greatest number.
     ghost line: { Self → ℕ };
 
-    /// That all that was said has reached the client.
+    /// The property that the client has received all that was said.
     ghost sent: { Self → Type 0 };
 
-    /// That it may refuse a line, the next one or a later one.
+    /// The property that the client may refuse a text, the next one or a later one.
     ghost refuses: { Self → Type 0 };
 
-    /// That its answers may become unreadable.
+    /// The property that the client's answers may become unreadable.
     ghost breaks: { Self → Type 0 };
 
-    /// Says a text, which may reach the client later.
+    /// Says a text, which the client may receive later.
     ///
-    /// Errors: the client refuses the text; nothing is known of what was said.
+    /// Errors: the writer's, if the client refuses the text. It is then unknown which part of the text was said.
     fn say(&mut self, text: &[u8]) -> io::Result<()>
         ensures ok { OnOk result (spoke self.old self.new (said text.now)) }
         ensures count { line self.new ≡ line self.old }
@@ -45,7 +45,7 @@ pub trait Client {
 
     /// Says a text, and sends all that was said.
     ///
-    /// Errors: those of `say`.
+    /// Errors: as in `say`.
     fn send(&mut self, text: &[u8]) -> io::Result<()>
         ensures ok { OnOk result (spoke self.old self.new (said text.now)) }
         ensures reaches { OnOk result (sent self.new) }
@@ -54,9 +54,9 @@ pub trait Client {
         ensures may_refuse { refuses self.new → refuses self.old }
         ensures may_break { breaks self.new → breaks self.old };
 
-    /// Reads whether the client has made the object that it was asked for.
+    /// Reads whether the client has made the requested object. Requires that all that was said was sent.
     ///
-    /// Errors: why its line is not an answer, with the number of the line.
+    /// Errors: the reason why its line is not an answer, with the number of the line.
     fn read_made(&mut self) -> Result<bool, AnswerError>
         requires { sent self.old }
         ensures ok { IfOk result (λ made. spoke self.old self.new (answered (made_text made))) }
@@ -67,9 +67,9 @@ pub trait Client {
         ensures may_refuse { refuses self.new → refuses self.old }
         ensures may_break { breaks self.new → breaks self.old };
 
-    /// Reads the actions with which the client answers a call.
+    /// Reads the actions with which the client answers a call, at most 1,000. Requires that all that was said was sent.
     ///
-    /// Errors: why its lines are not an answer, with the number of the line at which reading stopped.
+    /// Errors: the reason why its lines are not an answer, with the number of the line at which reading stopped.
     fn read_acts(&mut self) -> Result<Acts, AnswerError>
         requires { sent self.old }
         ensures ok { IfOk result (λ acts. spoke self.old self.new (answered (answer_text acts))) }
@@ -82,9 +82,9 @@ pub trait Client {
         ensures may_refuse { refuses self.new → refuses self.old }
         ensures may_break { breaks self.new → breaks self.old };
 
-    /// Nothing is spoken between a state and itself.
+    /// The law that nothing is said between a state and itself.
     ghost silent: { (client : Self) → spoke client client [] };
 
-    /// What is spoken in two parts is spoken as a whole.
+    /// The law that two consecutive parts of a talk form one talk.
     ghost joined: { (first half last : Self) (front back : List Spoken) → spoke first half front → spoke half last back → spoke first last (front ++ back) };
 }

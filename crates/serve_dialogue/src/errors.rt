@@ -1,25 +1,25 @@
-//! Why a run over a client breaks off.
+//! The reasons why a run over a client stops before its end.
 
 ghost use Rattle.std.specs.Prelude.{◌≡◌};
 ghost use Rattle.serve_dialogue.specs.Errors.{error_text, wrong_line};
 
-use client_answers::AnswerError;
+use serve_answers::AnswerError;
 use std::alloc::AllocError;
 use std::error::Error;
 use std::fmt;
 
-/// Why there is no run over a client, or it breaks off before it is over.
+/// The reason why there is no run over a client, or why it stops before its end.
 #[derive(Clone, Copy, Debug, PartialEq, Eq)]
 pub enum ServeError {
     /// Out of memory.
     Memory,
-    /// The log has as many entries as it may have, and one more would be next.
+    /// A full log: it has its greatest number of entries, and one more would come next.
     LogFull,
-    /// The client does not take a line.
+    /// A text that the client refuses.
     Output,
-    /// The script has no test.
+    /// A script without a test.
     NoTest,
-    /// The client does not answer.
+    /// A request that the client does not answer.
     NoAnswer(AnswerError),
 }
 

@@ -1,5 +1,5 @@
-//! The dialogue of the kernel with a client, the program in which the objects of a testbench live: what the kernel asks and notices, line by
-//! line, and what the client answers.
+//! The dialogue of the kernel with a client, the program that holds the objects of a testbench. It consists of the kernel's requests and
+//! notices, and of the client's answers, line by line.
 #![tactic(auto)]
 
 mod clients;
@@ -8,8 +8,8 @@ mod pipes;
 mod questions;
 mod serving;
 
-pub use client_answers::AnswerError;
 pub use clients::Client;
 pub use errors::ServeError;
 pub use pipes::Pipe;
+pub use serve_answers::AnswerError;
 pub use serving::serve_script;

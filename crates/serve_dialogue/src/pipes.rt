@@ -3,13 +3,14 @@
 ghost use Rattle.std.specs.Prelude.{◌≡◌, [], IfOk};
 
 use crate::clients::Client;
-use client_answers::{AnswerError, AnswerReader};
+use serve_answers::{AnswerError, AnswerReader};
 use std::alloc::{AllocError, Global};
 use std::io;
 use std::marker::Model;
 use uvm_object::Acts;
 
-/// A client at the other end of two pipes: a reader, from which its answers come, and a writer, which it reads. Contracts see both.
+/// A client at the other end of two pipes. It has a reader, from which the answers come, and a writer, which the client reads. Contracts see
+/// both.
 #[derive(Drop)]
 pub struct Pipe<R, W> {
     answers: AnswerReader<R>,
@@ -25,9 +26,9 @@ impl<R, W> Model for Pipe<R, W> {
 }
 
 impl<R: io::BufRead, W: io::Write> Pipe<R, W> {
-    /// Makes a client of a reader and a writer, before anything is said.
+    /// Creates a client of a reader and a writer, before anything is said.
     ///
-    /// Errors: out of memory; both are dropped.
+    /// Errors: out of memory; the reader and the writer are dropped.
     pub fn new(alloc: Global, reader: R, output: W) -> Result<Pipe<R, W>, AllocError>
     where
         R: Drop,
@@ -40,7 +41,7 @@ impl<R: io::BufRead, W: io::Write> Pipe<R, W> {
         })
     }
 
-    /// Lends the writer that the client reads.
+    /// Returns a reference to the writer that the client reads.
     pub fn output(&self) -> &W
         ensures { result.now ≡ self.now.output }
     {
@@ -75,7 +76,7 @@ impl<R: io::BufRead, W: io::Write> Client for Pipe<R, W> {
     ghost joined = { passed-joined R.remaining W.contents };
 
     fn say(&mut self, text: &[u8]) -> io::Result<()> {
-        // Without a trace most entries have no text: no writer is called for an empty one.
+        // If tracing is off, most entries have no text: for an empty one the writer is not called.
         if text.is_empty() {
             return Ok(());
         }

@@ -1,4 +1,4 @@
-//! The lines that the kernel says, those of the transcript aside.
+//! The requests and notices of the kernel. The lines of the transcript are not here.
 
 ghost use Rattle.std.specs.Prelude.{◌≡◌, ◌++◌, ◌∷◌, [], IfOk, IfSome, IsSome, OnOk, Some};
 ghost use Rattle.uvm_glob.specs.Lists.{newest};
@@ -16,7 +16,7 @@ use uvm_glob::laws::numbers_are_printed;
 use uvm_lines::call_text;
 use uvm_object::{Entry, Who};
 
-/// Appends the question for the object that is needed. Errors: out of memory.
+/// Appends the request for the needed object. Errors: out of memory.
 #[tactic(auto, using(crate::proofs::Marked::marked))]
 pub(crate) fn push_need(core: &Core, text: &mut Vec<u8>) -> Result<(), AllocError>
     requires { IsSome (need_of core.now.standing) }
@@ -35,7 +35,7 @@ pub(crate) fn push_need(core: &Core, text: &mut Vec<u8>) -> Result<(), AllocErro
     Ok(())
 }
 
-/// Appends the question for the answer to the call that a component or a sequence receives. Errors: out of memory.
+/// Appends the request for the answer of a component or a sequence to its call. Errors: out of memory.
 #[tactic(auto, using(crate::proofs::Marked::marked))]
 pub(crate) fn push_ask(core: &Core, who: &Who, text: &mut Vec<u8>) -> Result<(), AllocError>
     requires asked { IsSome (call_of core.now.standing) }
@@ -80,7 +80,7 @@ pub(crate) fn push_new(core: &Core, who: &Who, text: &mut Vec<u8>) -> Result<(),
     Ok(())
 }
 
-/// Appends the notice that time passes, if the newest entry says so. Errors: out of memory.
+/// Appends the notice of the new time in ticks if the newest entry is a time entry; otherwise nothing. Errors: out of memory.
 #[tactic(auto, using(crate::proofs::Marked::marked))]
 pub(crate) fn push_time(core: &Core, text: &mut Vec<u8>) -> Result<(), AllocError>
     ensures text { OnOk result (text.new.items ≡ text.old.items ++ time_in (newest core.now.history)) }
@@ -96,7 +96,7 @@ pub(crate) fn push_time(core: &Core, text: &mut Vec<u8>) -> Result<(), AllocErro
     Ok(())
 }
 
-// Appends a component or a sequence, after the word that says which.
+// Appends the text of a component or a sequence, after the word for its kind. Errors: out of memory.
 #[tactic(auto, using(crate::proofs::Marked::marked))]
 fn push_who(core: &Core, who: &Who, text: &mut Vec<u8>) -> Result<(), AllocError>
     requires { core.now.health ≡ Good }

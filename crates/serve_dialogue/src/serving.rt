@@ -1,4 +1,4 @@
-//! The run of a script whose objects live in another program.
+//! The run of a script whose objects another program holds.
 
 ghost use Rattle.std.specs.List.{flat_map};
 ghost use Rattle.std.specs.Prelude.{◌≡◌, ◌≢◌, ◌<◌, ◌++◌, ◌⊎◌, [], None, Err, IfErr, IfOk, IfSome, IsSome, MatchBool, filter, ◌∷◌, OnErr, OnOk, Some, length, true};
@@ -15,9 +15,9 @@ ghost use Rattle.bench_history.specs.Reports.{report_commands};
 ghost use Rattle.bench_history.specs.Sequences.{leaving_of};
 ghost use Rattle.bench_core.specs.Cores.{IsAsk, IsDrawn, Nothing, answer_in, core_after, last_text, need_of, turn_of, word_in};
 ghost use Rattle.bench_core.specs.declared.cores.Health.TheVariants.{Good};
-ghost use Rattle.bench_run.specs.Running.{IsEnding, log_counts, summary_of};
+ghost use Rattle.bench_run.specs.Running.{IsRunResult, log_counts, summary_of};
 ghost use Rattle.bench_run.specs.Words.{word_made};
-ghost use Rattle.scripted_seats.specs.Seats.{object_of};
+ghost use Rattle.script_objects.specs.Seats.{object_of};
 ghost use Rattle.serve_dialogue.specs.Apart.{AreMarkedLines};
 ghost use Rattle.serve_dialogue.specs.Dialogue.{back_line, backs_of, is_clients, time_in, told_last};
 ghost use Rattle.serve_dialogue.specs.Scripted.{AreSeated};
@@ -32,24 +32,23 @@ use crate::questions::{push_ask, push_back, push_need, push_new, push_time};
 use bench_core::{Core, CoreFault, Turn};
 use bench_history::laws;
 use bench_kernel::laws as custody;
-use bench_run::Ending;
+use bench_run::RunResult;
 use bench_script::Script;
 use rand_core::Rng;
-use scripted_objects::Answers;
-use scripted_seats::ScriptedSeats;
+use script_objects::{Answers, ScriptedSeats};
 use std::alloc::{AllocError, Global};
 use uvm_object::{Acts, Entry, Reason, Who};
 use uvm_report::{Reports, Severity};
 
-/// Runs a script to its end over the objects of a client, on the random numbers of `words`, and returns how the run ended. The objects of
-/// types that have `answers` are scripted: the kernel holds them, and the client takes no part in what is for them. The client is asked
-/// for each other object that is needed, and for the answer to each call of it. It receives a notice of each object that it has made, of
-/// the end of each sequence among these, and each time that time passes. After each entry of the log it receives the line of the entry if `trace` is
-/// on, and the line of its report if that is displayed; at the end, the summary.
+/// Runs a script to its end over the objects of a client, with the random numbers of `words`, and returns the result of the run. Objects of
+/// types that have `answers` are scripted: the kernel holds them, and the client takes no part in requests for them. The client is asked for
+/// each other object that is needed, and for each answer of its objects to a call. It receives a notice of each object that it made, of the
+/// end of each of its sequences, and of each new time. After each entry of the log it receives the entry's line if `trace` is on, and the
+/// line of its report if displayed. At the end it receives the summary.
 ///
-/// Errors: `NoTest` if the script has no test, before anything is said. Then, as they occur: `LogFull` if the log has as many entries as
-/// it may have and the run has not ended; `Output` if the client refuses a line; `NoAnswer` if it does not answer; `Memory` if memory
-/// runs out. What was said until then is the text of a legal log.
+/// Errors: `NoTest` if the script has no test, before anything is said. Then, as they occur: `LogFull` if the log is full and the run has not
+/// ended; `Output` if the client refuses a text; `NoAnswer` if the client does not answer; `Memory` (out of memory). After an error, what was
+/// said before it is the text of a legal log.
 pub fn serve_script<C: Client, R: Rng>(
     alloc: Global,
     script: Script,
@@ -57,7 +56,7 @@ pub fn serve_script<C: Client, R: Rng>(
     words: &mut R,
     trace: bool,
     client: &mut C,
-) -> Result<Ending, ServeError>
+) -> Result<RunResult, ServeError>
     ensures served { IsServed C.spoke C.ended C.line answers.now (R.stream words.old) script trace client.old client.new result }
     ensures output { result ≡ Err ServeError.Output → C.refuses client.old }
     ensures unreadable { IfErr result (λ error. IsUnheard error → C.breaks client.old) }
@@ -84,7 +83,7 @@ pub fn serve_script<C: Client, R: Rng>(
     )
 }
 
-// Makes entries until the run has ended, says the summary, and returns how the run ended. What is said is built in `text`.
+// Makes entries until the run has ended, says the summary, and returns the result of the run. Builds in `text` what is said.
 #[tactic(auto, using(crate::proofs::ApartLines::more_apart, crate::proofs::ApartLines::end_apart))]
 fn serve_core<C: Client, R: Rng>(
     core: &mut Core,
@@ -93,7 +92,7 @@ fn serve_core<C: Client, R: Rng>(
     trace: bool,
     client: &mut C,
     text: &mut Vec<u8>,
-) -> Result<Ending, ServeError>
+) -> Result<RunResult, ServeError>
     requires good { core.old.health ≡ Good }
     requires begun { core.old.history ≡ [] }
     requires nothing { core.old.standing ≡ Nothing }
@@ -106,7 +105,7 @@ fn serve_core<C: Client, R: Rng>(
     ensures may_break { C.breaks client.new → C.breaks client.old }
     ensures tested { IfErr result (λ error. error ≢ ServeError.NoTest) }
 {
-    // For the proof: whoever is made is new, and was called by nobody before.
+    // For the proof: a component or sequence that is made is new, and has received no call before.
     laws::machine_entries_are_silent();
     custody::made_are_new();
     custody::others_make_nobody();
@@ -115,11 +114,11 @@ fn serve_core<C: Client, R: Rng>(
         tell_entry(core, trace, client, text)?;
     }
     tell_summary(core, client, text)?;
-    Ok(ending_of(core))
+    Ok(run_result_of(core))
 }
 
-// Makes the next entry and returns true, or returns false if the run has ended. The client has then received a notice of each sequence
-// that had ended, and was asked if something was to be asked. What is to be said first of the entry is left in `text`.
+// Makes the next entry and returns true, or returns false if the run has ended. Before that it sends the client the notices of its
+// ended sequences, and the request, if there is one. Leaves in `text` the notice that comes before the text of the entry.
 #[tactic(auto, using(crate::proofs::Marked::marked))]
 fn make_entry<C: Client, R: Rng>(
     core: &mut Core,
@@ -169,7 +168,7 @@ fn make_entry<C: Client, R: Rng>(
     }
 }
 
-// Appends the notice that a sequence has ended, if its object is the client's. Errors: out of memory.
+// Appends the notice that a sequence has ended, if the client holds its object. Errors: out of memory.
 #[tactic(auto, using(crate::proofs::Marked::more_marked))]
 fn push_back_of(
     core: &Core,
@@ -189,8 +188,8 @@ fn push_back_of(
     push_back(core, who, text)
 }
 
-// Makes the entry of the object that is needed: one that is scripted, or the client's, which is asked for it. Leaves the notice of the
-// client's object in `text`.
+// Makes the entry for the needed object. If its type is scripted, inserts it into the slots; otherwise asks the client for it. Leaves the
+// notice of the client's object in `text`.
 #[tactic(auto, using(crate::proofs::Asks::need_marks, crate::proofs::Marked::marked))]
 fn fill<C: Client>(
     core: &mut Core,
@@ -238,7 +237,8 @@ fn fill<C: Client>(
     Ok(())
 }
 
-// Makes the entry of the answer of a component or a sequence to its call: of a scripted object, or of the client's, which is asked for it.
+// Makes the entry for the answer of a component or a sequence to its call. A scripted object gives the answer itself; otherwise the client is
+// asked for it.
 #[tactic(auto, using(crate::proofs::Asks::call_marks, crate::proofs::Marked::marked))]
 fn ask<C: Client>(
     core: &mut Core,
@@ -290,7 +290,7 @@ fn enter(core: &mut Core, acts: Acts) -> Result<(), ServeError>
     }
 }
 
-// Tells the newest entry: what is left of it in `text`, the time, its line and that of its report.
+// Says the text for the newest entry: the rest of `text`, the time, the line of the entry, and that of its report.
 fn tell_entry<C: Client>(
     core: &Core,
     trace: bool,
@@ -308,14 +308,14 @@ fn tell_entry<C: Client>(
     ensures may_refuse { C.refuses client.new → C.refuses client.old }
     ensures may_break { C.breaks client.new → C.breaks client.old }
 {
-    // For the proof: the entry is the last of a legal log.
+    // For the proof: the entry is the newest of a legal log.
     let _log = core.log();
     push_time(core, text)?;
     core.last_text(trace, text)?;
     say(client, text)
 }
 
-// Tells the summary of the reports.
+// Says the summary of the reports.
 fn tell_summary<C: Client>(
     core: &Core,
     client: &mut C,
@@ -369,14 +369,14 @@ fn send<C: Client>(client: &mut C, text: &mut Vec<u8>) -> Result<(), ServeError>
     Ok(())
 }
 
-// Returns how the run ended.
-fn ending_of(core: &Core) -> Ending
+// Returns the result of the run.
+fn run_result_of(core: &Core) -> RunResult
     requires over { is_over core.now.history ≡ true }
     requires good { core.now.health ≡ Good }
-    ensures { IsEnding result core.now.script core.now.history }
+    ensures { IsRunResult result core.now.script core.now.history }
 {
     let reports = reports_of(core);
-    Ending {
+    RunResult {
         reason: why_over(core),
         errors: reports.count_of(Severity::Error),
         fatals: reports.count_of(Severity::Fatal),
@@ -394,7 +394,7 @@ fn why_over(core: &Core) -> Reason
     }
 }
 
-// Returns the report server of a machine that has not run out of memory.
+// Returns the report server of a core that has not failed.
 fn reports_of(core: &Core) -> &Reports
     requires { core.now.health ≡ Good }
     ensures limit { limit_of result.now ≡ quit_limit (report_commands core.now.script core.now.history) }

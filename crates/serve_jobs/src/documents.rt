@@ -3,9 +3,9 @@
 ghost use Rattle.std.specs.Prelude.{◌≡◌, ◌++◌, IfErr, IfOk, IsSome, OnErr, OnOk, Ok, [], codes, if◌then◌else◌, option_copied};
 ghost use Rattle.toml.specs.Data.{get_member};
 ghost use Rattle.toml.specs.View.{table_view};
-ghost use Rattle.bench_run.specs.Endings.{is_clean};
+ghost use Rattle.bench_run.specs.RunResults.{is_clean};
 ghost use Rattle.bench_script.specs.Documents.{IsReadable};
-ghost use Rattle.bus_jobs.specs.Runs.{words_of_seed};
+ghost use Rattle.script_input.specs.Scripts.{words_of_seed};
 ghost use Rattle.script_jobs.specs.Runs.{HoldsAnswers, script_to_run, unknown_types};
 ghost use Rattle.serve_dialogue.specs.Spoken.{said};
 ghost use Rattle.serve_jobs.specs.Lines.{end_line, head_lines};
@@ -14,25 +14,26 @@ ghost use Rattle.serve_jobs.specs.Served.{IsAnswersVerdict, IsRefusedBy, IsServe
 
 use crate::lines::{say_end, say_head, say_last};
 use crate::verdicts::Verdict;
-use bench_run::Ending;
+use bench_run::RunResult;
 use bench_script::{Script, ScriptFault, read_document};
 use rand_core::SeedableRng;
 use rand_pcg::Pcg64;
 use script_jobs::{Refusal, declared_answers, reported, script_to_run};
-use scripted_objects::Answers;
+use script_objects::Answers;
 use serve_dialogue::{Client, ServeError, serve_script};
 use std::alloc::Global;
 use std::io;
 use toml::Table;
 use uvm_glob::Name;
 
-/// Runs the script in a document over the objects of a client, on the random numbers of `Pcg64` from the seed. If `test` is given, it
-/// replaces the script's own test. The objects of types that have answers in the document give these; all others are the client's. The client receives the number of the protocol's version and the seed first, and last, after why the
-/// run broke off if it did, how it ended.
+/// Runs the script in a document over the objects of a client, with the random numbers of `Pcg64` from the seed. If `test` is given, it
+/// replaces the script's own test. Objects of types that have answers in the document are scripted; the client holds all others. The client
+/// first receives the version of the protocol and the seed. At the end it receives the reason if the run stopped before its end, and then how
+/// the run ended.
 ///
-/// Returns `Clean` if the run finished and no ERROR or FATAL was counted, and `Faulty` if it ended otherwise. Returns `Refused`, with
-/// nothing asked, if the bytes, their answers aside, are not a script, or have no such test; otherwise if the answers are at fault.
-/// Returns `Broken` if the run broke off, or if the client refuses a line.
+/// Returns `Clean` if the run finished and no ERROR or FATAL was counted, and `Faulty` if it ended otherwise. Returns `Refused`, with no
+/// request made, in these cases, in this order: the bytes, without `answers`, are not a script; the script has no such test; its answers have
+/// an error. Returns `Broken` if the run stopped before its end, or if the client refuses a text.
 pub fn serve_bench<C: Client>(
     alloc: Global,
     bytes: &[u8],
@@ -59,7 +60,8 @@ pub fn serve_bench<C: Client>(
     }
 }
 
-/// Says to a client that there is no document: the version, the seed, and that the run broke off. Errors: the client refuses a line.
+/// Says to a client that there is no document: the version, the seed, and that the run could not begin. Errors: the writer's, if the client
+/// refuses a text.
 pub fn serve_nothing<C: Client>(seed: u64, client: &mut C) -> io::Result<()>
     ensures ok { OnOk result (C.spoke client.old client.new (said (head_lines seed ++ end_line (codes "broken 3")))) }
     ensures refused { OnErr result (C.refuses client.old) }
@@ -68,7 +70,7 @@ pub fn serve_nothing<C: Client>(seed: u64, client: &mut C) -> io::Result<()>
     say_end(b"broken 3", client)
 }
 
-// Runs the script in a document.
+// Runs the script in a document, as `serve_bench` does, without the first and the last lines.
 fn serve_document<C: Client>(
     alloc: Global,
     bytes: &[u8],
@@ -90,7 +92,7 @@ fn serve_document<C: Client>(
     }
 }
 
-// Runs the script in the tree of a document.
+// Runs the script in the tree of a document, as `serve_document` does.
 fn serve_tree<C: Client>(
     alloc: Global,
     root: &Table,
@@ -114,12 +116,12 @@ fn serve_tree<C: Client>(
     };
     let mut words = Pcg64::seed_from_u64(seed);
     match serve_script(alloc, script, &answers, &mut words, trace, client) {
-        Ok(ending) => verdict_on(&ending),
+        Ok(run_result) => verdict_on(&run_result),
         Err(error) => Verdict::Broken(error),
     }
 }
 
-// Returns the script in the tree of a document, its answers aside. Errors: the verdict, if it is refused.
+// Returns the script in the tree of a document, without the key `answers`. Errors: the verdict, if the script is rejected; out of memory.
 fn script_in(alloc: Global, root: &Table, test: Option<&Name>) -> Result<Script, Verdict>
     ensures ok { IfOk result (λ script. script_to_run (table_view root.now) (option_copied test.entry) ≡ Ok script) }
     ensures tested { IfOk result (λ script. IsSome script.test) }
@@ -131,7 +133,7 @@ fn script_in(alloc: Global, root: &Table, test: Option<&Name>) -> Result<Script,
     }
 }
 
-// Returns the answers in the tree of a document. Errors: the verdict, if they are refused.
+// Returns the answers in the tree of a document. Errors: the verdict, if the answers are rejected; out of memory.
 fn answers_of(alloc: Global, root: &Table, script: &Script) -> Result<Answers, Verdict>
     ensures ok { IfOk result (λ answers. HoldsAnswers (get_member (codes "answers") (table_view root.now)) answers) }
     ensures known { IfOk result (λ answers. unknown_types answers script.now.types ≡ []) }
@@ -143,7 +145,7 @@ fn answers_of(alloc: Global, root: &Table, script: &Script) -> Result<Answers, V
     }
 }
 
-// Returns the verdict by which a refused document is reported.
+// Returns the verdict on a document that is not run: rejected for the same reason, otherwise out of memory.
 fn reported_as(verdict: script_jobs::Verdict) -> Verdict
     ensures { result ≡ reported_as verdict }
 {
@@ -154,10 +156,10 @@ fn reported_as(verdict: script_jobs::Verdict) -> Verdict
 }
 
 // Returns the verdict on a run that has ended.
-fn verdict_on(ending: &Ending) -> Verdict
-    ensures { result ≡ (if is_clean ending.now then Verdict.Clean else Verdict.Faulty) }
+fn verdict_on(run_result: &RunResult) -> Verdict
+    ensures { result ≡ (if is_clean run_result.now then Verdict.Clean else Verdict.Faulty) }
 {
-    if ending.is_clean() {
+    if run_result.is_clean() {
         Verdict::Clean
     } else {
         Verdict::Faulty

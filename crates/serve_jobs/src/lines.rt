@@ -9,7 +9,7 @@ use itoa::Buffer;
 use serve_dialogue::{Client, ServeError};
 use std::io;
 
-/// Says the version of the protocol and the seed. Errors: the client refuses a line.
+/// Says the version of the protocol and the seed. Errors: the writer's, if the client refuses a text.
 pub(crate) fn say_head<C: Client>(client: &mut C, seed: u64) -> io::Result<()>
     ensures ok { OnOk result (C.spoke client.old client.new (said (head_lines seed))) }
     ensures count { C.line client.new ≡ C.line client.old }
@@ -22,7 +22,8 @@ pub(crate) fn say_head<C: Client>(client: &mut C, seed: u64) -> io::Result<()>
     client.say(b"\n")
 }
 
-// Says why the run broke off, with the number of the line that is wrong; 0 if none is. Errors: the client refuses a line.
+// Says why the run stopped before its end, with the number of the client's line that is wrong; 0 if none is. Errors: the writer's, if the
+// client refuses a text.
 fn say_fault<C: Client>(error: ServeError, client: &mut C) -> io::Result<()>
     ensures ok { OnOk result (C.spoke client.old client.new (said (fault_line error))) }
     ensures count { C.line client.new ≡ C.line client.old }
@@ -36,7 +37,7 @@ fn say_fault<C: Client>(error: ServeError, client: &mut C) -> io::Result<()>
     client.say(b"\n")
 }
 
-/// Says how the run ended, and sends all that was said. Errors: the client refuses a line.
+/// Says how the run ended, and sends all that was said. Errors: the writer's, if the client refuses a text.
 pub(crate) fn say_end<C: Client>(words: &[u8], client: &mut C) -> io::Result<()>
     ensures ok { OnOk result (C.spoke client.old client.new (said (end_line words.now))) }
     ensures count { C.line client.new ≡ C.line client.old }
@@ -48,7 +49,8 @@ pub(crate) fn say_end<C: Client>(words: &[u8], client: &mut C) -> io::Result<()>
     client.send(b"\n")
 }
 
-/// Says how a run ended, after why it broke off if it did, and sends all that was said. Errors: the client refuses a line.
+/// Says why the run stopped before its end, if it did, then how it ended, and sends all that was said. Errors: the writer's, if the client
+/// refuses a text.
 pub(crate) fn say_last<C: Client>(verdict: &Verdict, client: &mut C) -> io::Result<()>
     ensures ok { OnOk result (C.spoke client.old client.new (said (last_lines verdict.now))) }
     ensures count { C.line client.new ≡ C.line client.old }
@@ -63,7 +65,7 @@ pub(crate) fn say_last<C: Client>(verdict: &Verdict, client: &mut C) -> io::Resu
     }
 }
 
-// Says why a run broke off, and that it did, and sends all that was said.
+// Says why a run stopped before its end, and that it did, and sends all that was said. Errors: the writer's, if the client refuses a text.
 fn say_broken<C: Client>(error: ServeError, client: &mut C) -> io::Result<()>
     ensures ok { OnOk result (C.spoke client.old client.new (said (fault_line error ++ end_line (codes "broken 3")))) }
     ensures count { C.line client.new ≡ C.line client.old }

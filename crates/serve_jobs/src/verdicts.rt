@@ -1,4 +1,4 @@
-//! How the run of a document over a client ends.
+//! The verdicts on the run of a document over a client.
 
 ghost use Rattle.std.specs.Prelude.{◌≡◌, OnOk};
 ghost use Rattle.serve_jobs.specs.Verdicts.{IsReported, status_of};
@@ -7,21 +7,21 @@ use script_jobs::Refusal;
 use serve_dialogue::{AnswerError, ServeError};
 use std::io;
 
-/// How the run of a document over a client ended.
+/// The verdict on the run of a document over a client: how it ended, or why there is none.
 #[derive(Drop)]
 pub enum Verdict {
-    /// The run finished, and no ERROR or FATAL was counted.
+    /// A run that finished with no ERROR and no FATAL counted.
     Clean,
-    /// An ERROR or a FATAL was counted, or the run did not finish.
+    /// A run with an ERROR or a FATAL counted, or that did not finish.
     Faulty,
-    /// The document is refused.
+    /// A rejected document.
     Refused(Refusal),
-    /// The run could not begin, or broke off.
+    /// A run that could not begin, or that stopped before its end.
     Broken(ServeError),
 }
 
 impl Verdict {
-    /// Returns the exit status: 0 if `Clean`, 1 if `Faulty`, 2 if the document is refused, 3 if `Broken`.
+    /// Returns the exit status: 0 if `Clean`, 1 if `Faulty`, 2 if `Refused`, 3 if `Broken`.
     pub fn status(&self) -> u8
         ensures { result ≡ status_of self.now }
     {
@@ -33,8 +33,8 @@ impl Verdict {
         }
     }
 
-    /// Writes the line that says what is wrong with a file or with the client, of whose last line it shows `line`; writes nothing if nothing
-    /// is. Errors: the writer's, which may then have taken a part of the line.
+    /// Writes the error line of the verdict on a file or on the client; nothing for `Clean` and `Faulty`. `line` is the last line of the
+    /// client, which the error line shows if it is wrong. Errors: the writer's, which may have taken a part of the line.
     pub fn write_line<W: io::Write>(&self, file: &str, line: &[u8], err: &mut W) -> io::Result<()>
         ensures { OnOk result (IsReported file.now self.now (W.contents err.old) (W.contents err.new)) }
     {
@@ -49,8 +49,8 @@ impl Verdict {
     }
 }
 
-// Writes why the client does not answer: if a line of it is wrong, with the line's number and its first 80 bytes. A question mark stands
-// for each byte that is not a blank or a printed character of ASCII.
+// Writes why the client does not answer. If a line of the client is wrong, writes its number and its first 80 bytes. Each byte that is not
+// printable ASCII is shown as a question mark. Errors: the writer's.
 fn write_blame<W: io::Write>(
     error: AnswerError,
     file: &str,

@@ -1,25 +1,25 @@
--- Who performs acts.
+-- Performers and their actions.
 use Rattle.std.specs.Prelude.{ℕ, Bool, true, false, List, [], ◌∷◌}
 use Rattle.uvm_acts.specs.declared.acts.Act.{Act}
 use Rattle.uvm_acts.specs.declared.acts.Act.TheVariants.{Ask, ItemDone, Start, Request, Lock, Grab, Unlock, Send, EndStep}
-use Rattle.uvm_acts.specs.declared.deeds.Deeds.{Deeds}
-use Rattle.uvm_acts.specs.declared.deeds.Deeds.TheVariants.{None, One, Two, Many}
+use Rattle.uvm_acts.specs.declared.stored_acts.StoredActs.{StoredActs}
+use Rattle.uvm_acts.specs.declared.stored_acts.StoredActs.TheVariants.{None, One, Two, Many}
 use Rattle.uvm_acts.specs.declared.acts.Who.{Who}
 use Rattle.uvm_acts.specs.declared.acts.Who.TheVariants.{Node, Sequence}
 
--- the node at which somebody stands: a sequence at its home
+-- the node of a component; for a sequence that of its sequencer
 abbrev pub node_of : Who → ℕ
 node_of (Node node) = node
 node_of (Sequence home id) = home
 
--- the acts of an answer, as they are held
-abbrev pub acts_of : Deeds → List Act
+-- the actions of an answer, as a list
+abbrev pub acts_of : StoredActs → List Act
 acts_of None = []
-acts_of (One deed) = deed ∷ []
-acts_of (Two deeds) = deeds.value
-acts_of (Many deeds) = deeds.value.items
+acts_of (One stored_act) = stored_act ∷ []
+acts_of (Two stored_acts) = stored_acts.value
+acts_of (Many stored_acts) = stored_acts.value.items
 
--- it has to do with sequences and the sequencer: the driver's acts, those of a sequence, and the start of one
+-- whether an action concerns sequences: an action of a driver or of a sequence, or the start of a sequence
 abbrev pub is_sequencing : Act → Bool
 is_sequencing (Ask port how) = true
 is_sequencing (ItemDone port response) = true

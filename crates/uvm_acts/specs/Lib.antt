@@ -1,7 +1,7 @@
 pub mod Acts
 pub mod Answers
 pub mod Copies
-pub mod Deeds
-pub mod HeldCalls
+pub mod StoredActs
+pub mod StoredCalls
 pub mod PortActs
 pub mod PortCalls

@@ -103,7 +103,7 @@ pub enum Call {
         /// The item.
         item: Item,
     },
-    /// The item for which the driver asked, once a sequence sends it, or none for a `Try` that finds none (Clause 15);
+    /// The item for which the driver asked, when a sequence sends it, or none if a `Try` ends without one (Clause 15);
     /// follows `Act::Ask`.
     NextItem {
         /// The port that was given to `Act::Ask`.
@@ -367,7 +367,7 @@ pub enum Act {
     Wait {
         /// The number of ticks, at most 10^15.
         ticks: u64,
-        /// A number that the call returns.
+        /// A number that `Call::Wake` returns.
         tag: u32,
     },
 }
@@ -418,7 +418,7 @@ impl Act {
         })
     }
 
-    // Returns an equal action, of one that owns no memory.
+    // Returns an equal action. Requires an action that owns no memory.
     fn plain_copy(&self) -> Act
         requires { holds_memory self.now ≡ false }
         ensures { result ≡ self.now }
@@ -453,7 +453,7 @@ impl Act {
         }
     }
 
-    // Returns an equal action, of one that owns no memory and concerns sequences.
+    // Returns an equal action. Requires an action that owns no memory and concerns sequences.
     fn sequencing_copy(&self) -> Act
         requires plain { holds_memory self.now ≡ false }
         requires sequencing { is_sequencing self.now ≡ true }

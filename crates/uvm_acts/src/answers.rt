@@ -1,4 +1,4 @@
-//! Answers, act by act: one call for each act that most objects answer with.
+//! Functions that build an answer: one for each action that objects often answer with.
 
 ghost use Rattle.std.specs.Prelude.{◌≡◌, ◌++◌, ◌∷◌, [], IsTrue, OnOk, OnErr};
 ghost use Rattle.uvm_glob.specs.Names.{is_name};
@@ -7,17 +7,17 @@ ghost use Rattle.uvm_glob.specs.Paths.{is_path};
 ghost use Rattle.uvm_acts.specs.Answers.{connecting, reporting, starting};
 
 use crate::acts::{Act, What};
-use crate::deeds::Acts;
+use crate::stored_acts::Acts;
 use std::alloc::AllocError;
 use uvm_glob::{Glob, Name, Path};
 use uvm_report::{Report, Severity, Text, verbosity};
 use uvm_sequencer::{How, Mode};
 use uvm_tlm::{Item, PortKind};
 
-/// Names, paths and globs are literals here, which are shown to have no fault where the call stands. Each call adds its act at the
-/// end. Errors: out of memory, and leaves the acts as they were.
+/// Each of these functions appends one action to the answer. Names, paths and globs are literals, which the caller proves to be valid.
+/// Errors: out of memory. An error changes nothing.
 impl Acts {
-    /// Creates a component of a type as a child, by the factory (`Act::Create`; IEEE 1800.2-2020, Clause 8).
+    /// Appends `Act::Create`: creates a component as a child of the performer, by the factory (IEEE 1800.2-2020, Clause 8).
     pub fn create(&mut self, type_name: &str, name: &str) -> Result<(), AllocError>
         requires type_named { IsTrue (is_name type_name.now) }
         requires named { IsTrue (is_name name.now) }
@@ -30,7 +30,7 @@ impl Acts {
         })
     }
 
-    /// Adds a sequencer, which chooses in this mode (`Act::Add`; Clause 15).
+    /// Appends `Act::Add` of a sequencer with this arbitration mode (Clause 15).
     pub fn sequencer(&mut self, name: &str, mode: Mode) -> Result<(), AllocError>
         requires { IsTrue (is_name name.now) }
         ensures ok { OnOk result (self.new ≡ self.old ++ Act.Add name.now (What.Sequencer mode) ∷ []) }
@@ -42,7 +42,7 @@ impl Acts {
         })
     }
 
-    /// Adds a FIFO for so many items, 0 for any number (`Act::Add`; Clause 12).
+    /// Appends `Act::Add` of a FIFO that holds at most `size` items; 0 is no limit (Clause 12).
     pub fn fifo(&mut self, name: &str, size: u16) -> Result<(), AllocError>
         requires { IsTrue (is_name name.now) }
         ensures ok { OnOk result (self.new ≡ self.old ++ Act.Add name.now (What.Fifo size) ∷ []) }
@@ -54,7 +54,7 @@ impl Acts {
         })
     }
 
-    /// Adds a port of this kind (`Act::Add`; Clause 12).
+    /// Appends `Act::Add` of a port of this kind (Clause 12).
     pub fn port(&mut self, name: &str, kind: PortKind) -> Result<(), AllocError>
         requires { IsTrue (is_name name.now) }
         ensures ok { OnOk result (self.new ≡ self.old ++ Act.Add name.now (What.Port kind) ∷ []) }
@@ -66,7 +66,7 @@ impl Acts {
         })
     }
 
-    /// Adds an export of this kind (`Act::Add`; Clause 12).
+    /// Appends `Act::Add` of an export of this kind (Clause 12).
     pub fn export(&mut self, name: &str, kind: PortKind) -> Result<(), AllocError>
         requires { IsTrue (is_name name.now) }
         ensures ok { OnOk result (self.new ≡ self.old ++ Act.Add name.now (What.Export kind) ∷ []) }
@@ -78,7 +78,7 @@ impl Acts {
         })
     }
 
-    /// Adds an implementation, to which ports write (`Act::Add`; Clause 12).
+    /// Appends `Act::Add` of an imp, to which analysis ports write (Clause 12).
     pub fn imp(&mut self, name: &str) -> Result<(), AllocError>
         requires { IsTrue (is_name name.now) }
         ensures ok { OnOk result (self.new ≡ self.old ++ Act.Add name.now What.Imp ∷ []) }
@@ -90,7 +90,8 @@ impl Acts {
         })
     }
 
-    /// Sets a field for the paths below the performer's that a glob matches (`Act::Set`; Annex C, `uvm_config_db::set`).
+    /// Appends `Act::Set`: sets a configuration field at the paths below the performer's that a glob matches (Annex C,
+    /// `uvm_config_db::set`).
     pub fn set_config(&mut self, glob: &str, field: &str, value: i64) -> Result<(), AllocError>
         requires glob { IsTrue (is_glob glob.now) }
         requires named { IsTrue (is_name field.now) }
@@ -102,7 +103,8 @@ impl Acts {
         self.push(Act::Set { glob, field, value })
     }
 
-    /// Asks for the value of a field at the performer's path; `Call::Config` tells it (`Act::Get`; Annex C, `uvm_config_db::get`).
+    /// Appends `Act::Get`: looks up a configuration field at the performer's path (Annex C, `uvm_config_db::get`). `Call::Config`
+    /// follows with the value, or with none.
     pub fn get_config(&mut self, field: &str) -> Result<(), AllocError>
         requires { IsTrue (is_name field.now) }
         ensures ok { OnOk result (self.new ≡ self.old ++ Act.Get field.now ∷ []) }
@@ -113,7 +115,8 @@ impl Acts {
         })
     }
 
-    /// Overrides a type everywhere; without `replace` an override of it that is there stays (`Act::OverrideType`; Clause 8).
+    /// Appends `Act::OverrideType`: overrides a type at every path (Clause 8). Without `replace`, an earlier override of the type
+    /// stays in force.
     pub fn override_type(
         &mut self,
         original: &str,
@@ -132,7 +135,7 @@ impl Acts {
         })
     }
 
-    /// Overrides a type at the paths below the performer's that a glob matches (`Act::OverrideInst`; Clause 8).
+    /// Appends `Act::OverrideInst`: overrides a type at the paths below the performer's that a glob matches (Clause 8).
     pub fn override_instance(
         &mut self,
         original: &str,
@@ -153,7 +156,7 @@ impl Acts {
         })
     }
 
-    /// Connects a port or an export to another end, by their paths below the performer's (`Act::Connect`; Clause 12).
+    /// Appends `Act::Connect`: connects a port or an export to another end, by their paths below the performer's (Clause 12).
     pub fn connect(&mut self, from: &str, to: &str) -> Result<(), AllocError>
         requires from { IsTrue (is_path from.now) }
         requires to { IsTrue (is_path to.now) }
@@ -165,7 +168,8 @@ impl Acts {
         self.push(Act::Connect { from, to })
     }
 
-    /// Puts an item through a put port, once there is room; `Call::Stored` tells when (`Act::Put`; Clause 12, `put`).
+    /// Appends `Act::Put`: puts an item through a put port, once the FIFO has capacity (Clause 12, `put`). `Call::Stored` follows
+    /// when the item is in the FIFO.
     pub fn put(&mut self, port: &str, item: Item) -> Result<(), AllocError>
         requires { IsTrue (is_name port.now) }
         ensures ok { OnOk result (self.new ≡ self.old ++ Act.Put port.now item ∷ []) }
@@ -177,7 +181,8 @@ impl Acts {
         })
     }
 
-    /// Puts an item at once, if there is room; `Call::TryStored` tells whether (`Act::TryPut`; Clause 12, `try_put`).
+    /// Appends `Act::TryPut`: puts an item through a put port immediately, if this is possible (Clause 12, `try_put`).
+    /// `Call::TryStored` follows and says whether the item is in the FIFO.
     pub fn try_put(&mut self, port: &str, item: Item) -> Result<(), AllocError>
         requires { IsTrue (is_name port.now) }
         ensures ok { OnOk result (self.new ≡ self.old ++ Act.TryPut port.now item ∷ []) }
@@ -189,7 +194,8 @@ impl Acts {
         })
     }
 
-    /// Takes an item through a get port, once one is there; `Call::Taken` brings it (`Act::Take`; Clause 12, `get`).
+    /// Appends `Act::Take`: takes an item through a get port, once the FIFO has one (Clause 12, `get`). `Call::Taken` follows with
+    /// the item.
     pub fn take(&mut self, port: &str) -> Result<(), AllocError>
         requires { IsTrue (is_name port.now) }
         ensures ok { OnOk result (self.new ≡ self.old ++ Act.Take port.now ∷ []) }
@@ -200,7 +206,8 @@ impl Acts {
         })
     }
 
-    /// Takes an item at once, if one is there; `Call::TryTaken` tells which (`Act::TryTake`; Clause 12, `try_get`).
+    /// Appends `Act::TryTake`: takes an item through a get port immediately, if this is possible (Clause 12, `try_get`).
+    /// `Call::TryTaken` follows with the item, or with none.
     pub fn try_take(&mut self, port: &str) -> Result<(), AllocError>
         requires { IsTrue (is_name port.now) }
         ensures ok { OnOk result (self.new ≡ self.old ++ Act.TryTake port.now ∷ []) }
@@ -211,7 +218,8 @@ impl Acts {
         })
     }
 
-    /// Looks at the first item, once one is there; `Call::Peeked` shows it (`Act::Peek`; Clause 12, `peek`).
+    /// Appends `Act::Peek`: reads the first item through a get port, once the FIFO has one, and leaves it there (Clause 12, `peek`).
+    /// `Call::Peeked` follows with the item.
     pub fn peek(&mut self, port: &str) -> Result<(), AllocError>
         requires { IsTrue (is_name port.now) }
         ensures ok { OnOk result (self.new ≡ self.old ++ Act.Peek port.now ∷ []) }
@@ -222,7 +230,8 @@ impl Acts {
         })
     }
 
-    /// Writes an item through an analysis port; each imp that is reached hears `Call::Written` (`Act::Write`; Clause 12, `write`).
+    /// Appends `Act::Write`: writes an item through an analysis port (Clause 12, `write`). `Call::Written` follows at the component
+    /// of each imp that the port reaches.
     pub fn write(&mut self, port: &str, item: Item) -> Result<(), AllocError>
         requires { IsTrue (is_name port.now) }
         ensures ok { OnOk result (self.new ≡ self.old ++ Act.Write port.now item ∷ []) }
@@ -234,7 +243,8 @@ impl Acts {
         })
     }
 
-    /// Asks through a seq port for an item, and waits; `Call::NextItem` brings it (`Act::Ask`; Clause 15, `get_next_item`).
+    /// Appends `Act::Ask`: asks for an item through a seq port and waits (Clause 15, `get_next_item`). `Call::NextItem` follows with
+    /// the item.
     pub fn get_next_item(&mut self, port: &str) -> Result<(), AllocError>
         requires { IsTrue (is_name port.now) }
         ensures ok { OnOk result (self.new ≡ self.old ++ Act.Ask port.now How.Next ∷ []) }
@@ -246,7 +256,8 @@ impl Acts {
         })
     }
 
-    /// Asks for an item that is there; `Call::NextItem` brings it, or tells that none is (`Act::Ask`; Clause 15, `try_next_item`).
+    /// Appends `Act::Ask`: asks for an item through a seq port, if one is available (Clause 15, `try_next_item`). `Call::NextItem`
+    /// follows with the item, or with none.
     pub fn try_next_item(&mut self, port: &str) -> Result<(), AllocError>
         requires { IsTrue (is_name port.now) }
         ensures ok { OnOk result (self.new ≡ self.old ++ Act.Ask port.now How.Try ∷ []) }
@@ -258,7 +269,8 @@ impl Acts {
         })
     }
 
-    /// Asks for an item, which is done with when it comes in `Call::NextItem` (`Act::Ask`; Clause 15, `get`).
+    /// Appends `Act::Ask`: asks for an item through a seq port and waits (Clause 15, `get`). `Call::NextItem` follows with the item,
+    /// which then counts as done.
     pub fn get_item(&mut self, port: &str) -> Result<(), AllocError>
         requires { IsTrue (is_name port.now) }
         ensures ok { OnOk result (self.new ≡ self.old ++ Act.Ask port.now How.Get ∷ []) }
@@ -270,7 +282,8 @@ impl Acts {
         })
     }
 
-    /// Is done with the item that came through a seq port; the sequence hears `Call::ItemDone` (`Act::ItemDone`; Clause 15, `item_done`).
+    /// Appends `Act::ItemDone`: completes the item that came through a seq port (Clause 15, `item_done`). `Call::ItemDone` follows at
+    /// the sequence that sent it.
     pub fn item_done(&mut self, port: &str, response: Option<Item>) -> Result<(), AllocError>
         requires { IsTrue (is_name port.now) }
         ensures ok { OnOk result (self.new ≡ self.old ++ Act.ItemDone port.now response ∷ []) }
@@ -282,9 +295,9 @@ impl Acts {
         })
     }
 
-    /// Starts a sequence of a type on the sequencer at a path below the performer's, or where the performer runs itself, if the path
-    /// is empty; `Call::Finished` tells when it is over (`Act::Start`; Clause 14, `start`). Without a priority it has its parent's,
-    /// else 100.
+    /// Appends `Act::Start`: starts a sequence on the sequencer at a path below the performer's (Clause 14, `start`). With the empty
+    /// path, a sequence starts its child on its own sequencer. The priority is by default that of the parent sequence, or 100 without
+    /// a parent. `Call::Finished` follows when the sequence has finished.
     pub fn start(
         &mut self,
         type_name: &str,
@@ -307,7 +320,8 @@ impl Acts {
         })
     }
 
-    /// Requests to send an item, of a sequence; `Call::Grant` tells when it may (`Act::Request`; Clause 15, `wait_for_grant`).
+    /// Appends `Act::Request`: requests to send an item of the sequence (Clause 15, `wait_for_grant`). `Call::Grant` follows when the
+    /// sequencer grants it.
     pub fn request(&mut self, priority: Option<u16>) -> Result<(), AllocError>
         ensures ok { OnOk result (self.new ≡ self.old ++ Act.Request priority ∷ []) }
         ensures err { OnErr result (self.new ≡ self.old) }
@@ -315,7 +329,7 @@ impl Acts {
         self.push(Act::Request { priority })
     }
 
-    /// Sends an item, of a sequence that was granted (`Act::Send`; Clause 15, `send_request`).
+    /// Appends `Act::Send`: sends an item of the granted sequence to the driver (Clause 15, `send_request`).
     pub fn send(&mut self, item: Item) -> Result<(), AllocError>
         ensures ok { OnOk result (self.new ≡ self.old ++ Act.Send item ∷ []) }
         ensures err { OnErr result (self.new ≡ self.old) }
@@ -323,7 +337,7 @@ impl Acts {
         self.push(Act::Send { item })
     }
 
-    /// Ends the step at which the sequence is (`Act::EndStep`; Clause 14).
+    /// Appends `Act::EndStep`: ends the current step of the sequence (Clause 14).
     pub fn end_step(&mut self) -> Result<(), AllocError>
         ensures ok { OnOk result (self.new ≡ self.old ++ Act.EndStep ∷ []) }
         ensures err { OnErr result (self.new ≡ self.old) }
@@ -331,7 +345,7 @@ impl Acts {
         self.push(Act::EndStep)
     }
 
-    /// Raises an objection so many times (`Act::RaiseObjection`; Clause 10.5).
+    /// Appends `Act::RaiseObjection`: raises `count` objections (Clause 10.5).
     pub fn raise_objection(&mut self, count: u16) -> Result<(), AllocError>
         ensures ok { OnOk result (self.new ≡ self.old ++ Act.RaiseObjection count ∷ []) }
         ensures err { OnErr result (self.new ≡ self.old) }
@@ -339,7 +353,7 @@ impl Acts {
         self.push(Act::RaiseObjection { count })
     }
 
-    /// Drops what was raised so many times (`Act::DropObjection`; Clause 10.5).
+    /// Appends `Act::DropObjection`: drops `count` raised objections (Clause 10.5).
     pub fn drop_objection(&mut self, count: u16) -> Result<(), AllocError>
         ensures ok { OnOk result (self.new ≡ self.old ++ Act.DropObjection count ∷ []) }
         ensures err { OnErr result (self.new ≡ self.old) }
@@ -347,7 +361,7 @@ impl Acts {
         self.push(Act::DropObjection { count })
     }
 
-    /// Sets the drain time, in ticks (`Act::SetDrain`; Clause 10.5).
+    /// Appends `Act::SetDrain`: sets the drain time, in ticks (Clause 10.5).
     pub fn set_drain(&mut self, ticks: u64) -> Result<(), AllocError>
         ensures ok { OnOk result (self.new ≡ self.old ++ Act.SetDrain ticks ∷ []) }
         ensures err { OnErr result (self.new ≡ self.old) }
@@ -355,7 +369,7 @@ impl Acts {
         self.push(Act::SetDrain { ticks })
     }
 
-    /// Waits for so many ticks; `Call::Wake` tells the tag when they are over (`Act::Wait`).
+    /// Appends `Act::Wait`: `Call::Wake` follows with the tag after this number of ticks.
     pub fn wait(&mut self, ticks: u64, tag: u32) -> Result<(), AllocError>
         ensures ok { OnOk result (self.new ≡ self.old ++ Act.Wait ticks tag ∷ []) }
         ensures err { OnErr result (self.new ≡ self.old) }
@@ -363,7 +377,7 @@ impl Acts {
         self.push(Act::Wait { ticks, tag })
     }
 
-    /// Reports an INFO, which is dropped where the level is below its verbosity (`Act::Report`; Clause 6).
+    /// Appends `Act::Report` of an INFO, which is dropped if the verbosity level is below its verbosity (Clause 6).
     pub fn info(&mut self, id: &str, text: Text, verbosity: u16) -> Result<(), AllocError>
         requires { IsTrue (is_name id.now) }
         ensures ok { OnOk result (self.new ≡ self.old ++ reporting Severity.Info id.now text verbosity ∷ []) }
@@ -379,7 +393,7 @@ impl Acts {
         })
     }
 
-    /// Reports a WARNING (`Act::Report`; Clause 6).
+    /// Appends `Act::Report` of a WARNING (Clause 6).
     pub fn warning(&mut self, id: &str, text: Text) -> Result<(), AllocError>
         requires { IsTrue (is_name id.now) }
         ensures ok { OnOk result (self.new ≡ self.old ++ reporting Severity.Warning id.now text 0 ∷ []) }
@@ -395,7 +409,7 @@ impl Acts {
         })
     }
 
-    /// Reports an ERROR (`Act::Report`; Clause 6).
+    /// Appends `Act::Report` of an ERROR (Clause 6).
     pub fn error(&mut self, id: &str, text: Text) -> Result<(), AllocError>
         requires { IsTrue (is_name id.now) }
         ensures ok { OnOk result (self.new ≡ self.old ++ reporting Severity.Error id.now text 0 ∷ []) }
@@ -411,7 +425,7 @@ impl Acts {
         })
     }
 
-    /// Reports a FATAL (`Act::Report`; Clause 6).
+    /// Appends `Act::Report` of a FATAL (Clause 6).
     pub fn fatal(&mut self, id: &str, text: Text) -> Result<(), AllocError>
         requires { IsTrue (is_name id.now) }
         ensures ok { OnOk result (self.new ≡ self.old ++ reporting Severity.Fatal id.now text 0 ∷ []) }

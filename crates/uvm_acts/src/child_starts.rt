@@ -1,4 +1,4 @@
-//! Starts of sequences by sequences, held in little room.
+//! Compact storage of the start of a child sequence.
 
 ghost use Rattle.std.specs.Prelude.{◌≡◌, IfSome};
 
@@ -7,7 +7,7 @@ use std::alloc::Global;
 use std::marker::Model;
 use uvm_glob::{Path, ShortName};
 
-/// The start of a sequence at the empty path, that is of a child, where the names are short. Contracts see the act.
+/// The start of a child sequence, that is one at the empty path, whose type and name are short names. In contracts it is the action.
 #[derive(Drop)]
 pub(crate) struct ChildStart {
     alloc: Global,
@@ -27,7 +27,7 @@ impl Model for ChildStart {
 }
 
 impl ChildStart {
-    /// The act, if it starts a child, and the names are short.
+    /// Creates the compact form of an action; `None` if it does not start a child, or if a name is not short.
     pub(crate) fn new(alloc: Global, act: &Act) -> Option<ChildStart>
         ensures { IfSome result (λ held. held ≡ act.now) }
     {
@@ -51,7 +51,7 @@ impl ChildStart {
         })
     }
 
-    /// The act. It takes no memory.
+    /// Returns the action. Allocates no memory.
     pub(crate) fn act(&self) -> Act
         ensures { result ≡ self.now }
     {

@@ -1,13 +1,13 @@
-//! What an object is called with and what it answers: calls and acts, and how a log holds them.
+//! The calls that an object receives, the actions with which it answers, and how a log stores both.
 #![tactic(auto)]
 
 mod acts;
 mod answers;
 mod child_starts;
-mod deeds;
-mod held_calls;
 mod port_acts;
+mod stored_acts;
+mod stored_calls;
 
 pub use acts::{Act, Call, What, Who};
-pub use deeds::{Acts, ActsIter, Deed, LentAct};
-pub use held_calls::{HeldCall, Notice};
+pub use stored_acts::{ActRef, Acts, ActsIter, StoredAct};
+pub use stored_calls::{EventCall, StoredCall};

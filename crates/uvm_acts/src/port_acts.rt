@@ -1,4 +1,4 @@
-//! Acts with an item through ports, held in little room.
+//! Compact storage of actions with an item through a port.
 
 ghost use Rattle.std.specs.Prelude.{◌≡◌, IfSome};
 ghost use Rattle.uvm_acts.specs.PortActs.{act_at};
@@ -8,9 +8,9 @@ use std::marker::Model;
 use uvm_glob::{Name, ShortName};
 use uvm_tlm::Item;
 
-/// What is done with an item through a port.
+/// The kind of an action with an item through a port.
 #[derive(Clone, Copy)]
-pub(crate) enum PortDeed {
+pub(crate) enum StoredPortAct {
     /// `Act::Put`.
     Put,
     /// `Act::TryPut`.
@@ -21,11 +21,11 @@ pub(crate) enum PortDeed {
     Respond,
 }
 
-/// An act with an item through a port of a short name. Contracts see the act.
+/// An action with an item through a port with a short name. In contracts it is the action.
 #[derive(Drop)]
 pub(crate) struct PortAct {
     port: ShortName,
-    deed: PortDeed,
+    stored_act: StoredPortAct,
     item: Item,
 }
 
@@ -35,32 +35,32 @@ impl Model for PortAct {
 
     ghost Value = { Act };
 
-    ghost view = { λ p. act_at p.port p.deed p.item };
+    ghost view = { λ p. act_at p.port p.stored_act p.item };
 }
 
 impl PortAct {
-    /// The act, if it is one with an item through a port of a short name.
+    /// Creates the compact form of an action; `None` if it is not an action with an item through a port with a short name.
     pub(crate) fn new(act: &Act) -> Option<PortAct>
         ensures { IfSome result (λ held. held ≡ act.now) }
     {
-        let (port, deed, item) = parts(act)?;
+        let (port, stored_act, item) = parts(act)?;
         Some(PortAct {
             port: ShortName::new(port)?,
-            deed,
+            stored_act,
             item,
         })
     }
 
-    /// The act.
+    /// Returns the action.
     pub(crate) fn act(&self) -> Act
         ensures { result ≡ self.now }
     {
         let (port, item) = (self.port.name(), self.item);
-        match self.deed {
-            PortDeed::Put => Act::Put { port, item },
-            PortDeed::TryPut => Act::TryPut { port, item },
-            PortDeed::Write => Act::Write { port, item },
-            PortDeed::Respond => Act::ItemDone {
+        match self.stored_act {
+            StoredPortAct::Put => Act::Put { port, item },
+            StoredPortAct::TryPut => Act::TryPut { port, item },
+            StoredPortAct::Write => Act::Write { port, item },
+            StoredPortAct::Respond => Act::ItemDone {
                 port,
                 response: Some(item),
             },
@@ -68,18 +68,18 @@ impl PortAct {
     }
 }
 
-// The port of an act with an item through one, what is done with the item, and the item.
-fn parts(act: &Act) -> Option<(&Name, PortDeed, Item)>
+// Returns the port, the kind and the item of an action with an item through a port; `None` for other actions.
+fn parts(act: &Act) -> Option<(&Name, StoredPortAct, Item)>
     ensures { IfSome result (λ parts. act_at parts.0.now parts.1 parts.2 ≡ act.now) }
 {
     match act {
-        Act::Put { port, item } => Some((port, PortDeed::Put, *item)),
-        Act::TryPut { port, item } => Some((port, PortDeed::TryPut, *item)),
-        Act::Write { port, item } => Some((port, PortDeed::Write, *item)),
+        Act::Put { port, item } => Some((port, StoredPortAct::Put, *item)),
+        Act::TryPut { port, item } => Some((port, StoredPortAct::TryPut, *item)),
+        Act::Write { port, item } => Some((port, StoredPortAct::Write, *item)),
         Act::ItemDone {
             port,
             response: Some(item),
-        } => Some((port, PortDeed::Respond, *item)),
+        } => Some((port, StoredPortAct::Respond, *item)),
         _ => None,
     }
 }

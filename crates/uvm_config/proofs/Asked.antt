@@ -5,7 +5,7 @@ use Rattle.std.specs.Map.{lookup, set_value}
 use Rattle.std.proofs.lemmas.Map.Steps.{set_value_same}
 use Rattle.uvm_config.proofs.OneField.{field_answer-none}
 use Rattle.std.proofs.lemmas.Bool.{cases_Bool}
-use Rattle.uvm_config.specs.Choice.{answer_after}
+use Rattle.uvm_config.specs.ChosenValue.{answer_after}
 use Rattle.uvm_config.specs.Fields.{FieldSetting, field_answer, Fields, answer_among}
 
 -- two names that are equal find the same

@@ -4,7 +4,7 @@ use Rattle.std.specs.List.{list_all}
 use Rattle.std.proofs.lemmas.Bool.{and_parts, and_cases, cases_Bool, false≢true, leb-true, leb-false}
 use Rattle.std.proofs.lemmas.Bool.Decides.{nat_tests}
 use Rattle.std.proofs.lemmas.List.{reverse-append}
-use Rattle.uvm_config.specs.Choice.{gives_way, answer_after}
+use Rattle.uvm_config.specs.ChosenValue.{gives_way, answer_after}
 use Rattle.uvm_glob.specs.Lists.{newest}
 use Rattle.uvm_config.specs.Answers.{Setting, answers_at, answering, is_greatest, greatest, answer_of, strongest, strongest_answer, NoneSetNoAnswer, AnswersAreGiven}
 

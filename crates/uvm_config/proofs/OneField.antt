@@ -5,7 +5,7 @@ use Rattle.std.specs.Map.{lookup, remove_entry}
 use Rattle.std.proofs.lemmas.Bool.{cases_Bool, false≢true, leb-true, leb-false, le-leb}
 use Rattle.std.proofs.lemmas.List.{append-nil, map-append}
 use Rattle.uvm_glob.specs.Globs.{matches}
-use Rattle.uvm_config.specs.Choice.{Answer, gives_way, answer_after}
+use Rattle.uvm_config.specs.ChosenValue.{Answer, gives_way, answer_after}
 use Rattle.uvm_config.specs.Answers.{strongest_answer}
 use Rattle.uvm_config.specs.Fields.{FieldSetting, setting_of, field_setting, field_answer}
 use Rattle.uvm_config.proofs.Given.{answer-none, answer-push}

@@ -2,7 +2,7 @@
 use Rattle.std.proofs.Common.{◌≡◌, ◌<◌, ◌≤◌, ℕ, Bool, true, false, List, [], ◌∷◌, ◌++◌, Option, Some, None, ◌&&◌, nat_le, if◌then◌else◌, MatchOption, IfSome, IsTrue, All, option_map, refl, ap, subst, ◌∙◌, sym, inl, inr, arith}
 use Rattle.std.proofs.lemmas.Bool.{cases_Bool, false≢true, leb-true, leb-false}
 use Rattle.std.proofs.lemmas.List.Elements.{All-nil, All-cons, All-head, All-tail, All-append}
-use Rattle.uvm_config.specs.Choice.{gives_way}
+use Rattle.uvm_config.specs.ChosenValue.{gives_way}
 use Rattle.uvm_config.specs.Answers.{Setting, answers_at, answer_of, strongest, strongest_answer, Prevails, AnswerIsStrongest, NoneWhereNoneAnswers}
 use Rattle.uvm_config.proofs.Given.{winner, winner_more}
 

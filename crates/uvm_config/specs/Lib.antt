@@ -1,8 +1,8 @@
 pub mod Faults
-pub mod Choice
+pub mod ChosenValue
 pub mod Answers
 pub mod Fields
-pub mod Kept
+pub mod Representation
 pub mod Observed
 pub use Rattle.uvm_glob.specs.Names
 pub use Rattle.uvm_glob.specs.Paths

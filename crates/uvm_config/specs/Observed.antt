@@ -1,2 +1,2 @@
--- What settings give, however they are kept.
-pub use Rattle.uvm_config.specs.Kept.{Kept, answer_at, value_at, accepted, IsSame}
+-- What the settings return, independent of their representation.
+pub use Rattle.uvm_config.specs.Representation.{Representation, answer_at, value_at, accepted, IsSame}

@@ -1,11 +1,11 @@
-//! The settings.
+//! The configuration database.
 
 ghost use Rattle.std.specs.Prelude.{◌≡◌, ◌+◌, ◌≤◌, ◌↔◌, ℕ, List, None, OnOk, OnErr, nat_le};
 ghost use Rattle.uvm_glob.specs.Limits.{most_names};
 ghost use Rattle.uvm_glob.specs.Paths.{path_text};
 ghost use Rattle.uvm_config.specs.Answers.{most_settings};
-ghost use Rattle.uvm_config.specs.Choice.{answer_after, precedence_of};
-ghost use Rattle.uvm_config.specs.Kept.{answer_at, value_at, accepted, IsSame};
+ghost use Rattle.uvm_config.specs.ChosenValue.{answer_after, precedence_of};
+ghost use Rattle.uvm_config.specs.Representation.{answer_at, value_at, accepted, IsSame};
 
 use crate::faults::ConfigFault;
 use crate::fields::{self, FieldSettings};
@@ -15,19 +15,18 @@ use std::collections::HashMap;
 use std::marker::Model;
 use uvm_glob::{Glob, Name, Path};
 
-/// The settings of fields for the paths that scopes match, as uvm_config_db holds them (IEEE 1800.2-2020, Annex C).
-/// Contracts see the precedence and the value of the setting that answers at each path and field, and how many settings
-/// were accepted.
+/// The settings of fields at the paths that scopes match, as in uvm_config_db (IEEE 1800.2-2020, Annex C). Contracts see the
+/// precedence and the value of the setting that applies at each path and field, and the number of accepted settings.
 pub struct Settings {
-    // The settings of each field that may answer.
+    // The settings of each field that can apply.
     fields: HashMap<Name, FieldSettings>,
-    // How many settings were accepted.
+    // The number of accepted settings.
     count: usize,
-    // Where the lists take their memory.
+    // The allocator of the lists.
     alloc: Global,
 }
 
-// (By hand, so that crates above prove no drop of what it holds.)
+// (Written by hand: crates that use the settings then need no proof about the drop of their fields.)
 impl Drop for Settings {
     fn drop(self) {
         let Settings {
@@ -39,22 +38,22 @@ impl Drop for Settings {
 }
 
 impl Model for Settings {
-    ghost use Rattle.uvm_config.specs.Kept.{Kept};
+    ghost use Rattle.uvm_config.specs.Representation.{Representation};
 
-    ghost Value = { Kept };
+    ghost Value = { Representation };
 
     ghost view = { λ s. record { fields = s.fields.entries; count = s.count } };
 }
 
-// The precedence of a setting, unless it is made while phase build runs (`uvm_resource_base::default_precedence`).
+// The precedence of a setting that is made while the build phase does not run (`uvm_resource_base::default_precedence`).
 const DEFAULT_PRECEDENCE: u16 = 1000;
 
 impl Settings {
-    /// The most settings that are accepted.
+    /// The maximum number of accepted settings.
     pub const MAX_SETS: usize = 65_536;
 
-    /// No settings.
-    #[tactic(auto, unfolding(crate::specs::Kept::answer_at, crate::specs::Kept::accepted, crate::specs::Answers::strongest_answer))]
+    /// Creates an empty database.
+    #[tactic(auto, unfolding(crate::specs::Representation::answer_at, crate::specs::Representation::accepted, crate::specs::Answers::strongest_answer))]
     pub fn new(alloc: Global) -> Settings
         ensures answers { (path : List (List ℕ)) (asked : List ℕ) → answer_at result path asked ≡ None }
         ensures accepted { accepted result ≡ 0 }
@@ -66,11 +65,11 @@ impl Settings {
         }
     }
 
-    /// Sets a field for the paths that the scope matches. The setter is a component at a depth of at most 32 (0 for the top, 1
-    /// for its children), and `building` says whether phase build runs: while it does, a setting has the default precedence,
-    /// 1000, less the depth, and the default precedence at any other time. The greatest precedence answers, and among equals the
-    /// last that was set. Gives the first of `Full` and `Memory` that holds, if one does; then nothing has changed.
-    #[tactic(auto, unfolding(crate::specs::Kept::answer_at, crate::specs::Kept::accepted))]
+    /// Sets a field at the paths that the scope matches. The setter is a component at `depth`, at most 32 (0 for the top, 1 for
+    /// its children). `building` states whether the build phase runs: the precedence is then 1000 minus the depth, and otherwise
+    /// 1000. The setting with the greatest precedence applies, and of equal ones the last. Errors: `Full` if `MAX_SETS` settings
+    /// were accepted; out of memory (`Memory`). An error changes nothing.
+    #[tactic(auto, unfolding(crate::specs::Representation::answer_at, crate::specs::Representation::accepted))]
     pub fn set(
         &mut self,
         depth: u8,
@@ -97,16 +96,16 @@ impl Settings {
         Ok(())
     }
 
-    /// The value of a field at a path, if a setting answers there. Takes no memory.
-    #[tactic(auto, unfolding(crate::specs::Kept::answer_at))]
+    /// Returns the value of a field at a path, if a setting applies there. Does not allocate.
+    #[tactic(auto, unfolding(crate::specs::Representation::answer_at))]
     pub fn get(&self, path: &Path, field: &Name) -> Option<i64>
         ensures { result ≡ value_at self.now path.now field.now }
     {
         Some(self.fields.get(field)?.strongest(path)?.value)
     }
 
-    /// Whether as many settings were accepted as there can be.
-    #[tactic(auto, unfolding(crate::specs::Kept::accepted))]
+    /// Returns whether `MAX_SETS` settings were accepted, so that no more are.
+    #[tactic(auto, unfolding(crate::specs::Representation::accepted))]
     pub fn is_full(&self) -> bool
         ensures { result ≡ nat_le most_settings (accepted self.now) }
     {
@@ -114,8 +113,8 @@ impl Settings {
     }
 }
 
-// The precedence of a setting of a component at a depth.
-#[tactic(auto, unfolding(crate::specs::Choice::precedence_of))]
+// Returns the precedence of a setting by a component at a depth.
+#[tactic(auto, unfolding(crate::specs::ChosenValue::precedence_of))]
 fn precedence_of(building: bool, depth: u8) -> u16
     requires { depth ≤ most_names }
     ensures { result ≡ precedence_of building depth }

@@ -1,15 +1,15 @@
-//! Why a setting is refused.
+//! The errors of a setting.
 
 use std::alloc::{AllocError, AllocFailed};
 use std::error::Error;
 use std::fmt;
 
-/// Why a setting is not accepted, in the order in which it is looked for. One that is not accepted changes nothing.
+/// The reason why a setting is not accepted. The variants are in the order of the checks. An error changes nothing.
 #[derive(Clone, Copy, Debug, PartialEq, Eq)]
 pub enum ConfigFault {
-    /// `Settings::MAX_SETS` settings were accepted, and one more would be next.
+    /// `Settings::MAX_SETS` settings were already accepted.
     Full,
-    /// Memory was refused.
+    /// Out of memory.
     Memory,
 }
 

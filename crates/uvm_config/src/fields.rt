@@ -4,7 +4,7 @@ ghost use Rattle.std.specs.Prelude.{◌≡◌, ◌∷◌, ◌++◌, ℕ, List, [
 ghost use Rattle.std.specs.Cmp.Lexicographic.{pointwise};
 ghost use Rattle.indexmap.specs.IndexMap.{get, shift_remove_entry};
 ghost use Rattle.uvm_glob.specs.Paths.{path_text};
-ghost use Rattle.uvm_config.specs.Choice.{answer_after, gives_way};
+ghost use Rattle.uvm_config.specs.ChosenValue.{answer_after, gives_way};
 ghost use Rattle.uvm_config.specs.Fields.{answer_among, field_answer};
 
 use crate::resources::{Resource, stronger};
@@ -14,11 +14,11 @@ use std::collections::HashMap;
 use std::marker::Model;
 use uvm_glob::{Glob, Name, Path};
 
-/// The settings of one field that may answer, in the order in which they were set: of those with one scope the strongest
-/// alone, and of equals the last. Contracts see them as a list.
+/// The settings of one field that can apply, in the order in which they were set. Of the settings with the same scope, only the
+/// one with the greatest precedence is kept, and of equal ones the last. Contracts see them as a list.
 #[derive(Drop)]
 pub(crate) struct FieldSettings {
-    // What each scope gives.
+    // The precedence and the value of each scope.
     settings: IndexMap<Glob, Resource>,
 }
 
@@ -32,7 +32,7 @@ impl Model for FieldSettings {
 }
 
 impl FieldSettings {
-    /// No settings.
+    /// Creates an empty list of settings.
     pub fn new(alloc: Global) -> FieldSettings
         ensures { result ≡ [] }
     {
@@ -41,8 +41,8 @@ impl FieldSettings {
         }
     }
 
-    /// Adds a setting, which takes the place of the one with its scope; where that one is stronger, nothing changes. Gives
-    /// an error where memory was refused.
+    /// Adds a setting, which replaces the one with the same scope. Changes nothing if that one has a greater precedence. Errors:
+    /// out of memory. An error changes nothing.
     pub fn add(&mut self, scope: Glob, resource: Resource) -> Result<(), AllocError>
         ensures answers { OnOk result ((text : List ℕ) →
             field_answer self.new text
@@ -55,7 +55,7 @@ impl FieldSettings {
         put_last(&mut self.settings, scope, resource)
     }
 
-    /// What answers at a path.
+    /// Returns the precedence and the value of the setting that applies at a path, if there is one.
     pub fn strongest(&self, path: &Path) -> Option<Resource>
         ensures { result ≡ field_answer self.now (path_text path.now) }
     {
@@ -67,7 +67,7 @@ impl FieldSettings {
     }
 }
 
-/// Adds a setting to those of its field. Gives an error where memory was refused.
+/// Adds a setting to those of its field. Errors: out of memory. An error changes nothing.
 pub(crate) fn add(
     fields: &mut HashMap<Name, FieldSettings>,
     alloc: Global,
@@ -91,7 +91,7 @@ pub(crate) fn add(
     }
 }
 
-// Whether no setting with the scope has a greater precedence than a later one.
+// Returns whether no setting with the scope has a greater precedence than `later`.
 fn gives_way(settings: &IndexMap<Glob, Resource>, scope: &Glob, later: Resource) -> bool
     ensures { result ≡ gives_way later.precedence (get (pointwise nat_eq) settings.now scope.now) }
 {
@@ -101,7 +101,7 @@ fn gives_way(settings: &IndexMap<Glob, Resource>, scope: &Glob, later: Resource)
     }
 }
 
-// Puts a setting behind the others, in the place of the one with its scope.
+// Adds a setting after the others and removes the one with the same scope. Errors: out of memory. An error changes nothing.
 #[tactic(auto, using(crate::proofs::Put::goes_last))]
 fn put_last(
     settings: &mut IndexMap<Glob, Resource>,

@@ -1,21 +1,21 @@
-//! Laws of the definitions: what they say, in other words. The functions do nothing; their contracts are the laws.
+//! Laws of the definitions. These functions have no run-time effect: call one where a proof needs its `ensures`.
 
 ghost use Rattle.uvm_config.specs.Answers.{NoneSetNoAnswer, AnswersAreGiven, AnswerIsStrongest, NoneWhereNoneAnswers};
 
-/// Where nothing is set nothing answers.
+/// States that no setting applies if none is given.
 #[tactic(auto, using(crate::proofs::Given::none_set_no_answer))]
 pub fn none_set_no_answer()
     ensures { NoneSetNoAnswer }
 {}
 
-/// One more setting changes the answer as the clause of `Settings::set` says.
+/// States how one more setting changes the setting that applies: as `Settings::set` ensures.
 #[tactic(auto, using(crate::proofs::Given::answers_are_given))]
 pub fn answers_are_given()
     ensures { AnswersAreGiven }
 {}
 
-/// What answers is a setting of the list that answers, over which no other prevails; and something answers wherever a
-/// setting does.
+/// States that the setting that applies is one of the list that matches, and that no other takes precedence over it. States also
+/// that a setting applies wherever one matches.
 #[tactic(auto, using(crate::proofs::Strongest::answer_is_strongest, crate::proofs::Strongest::none_where_none_answers))]
 pub fn answer_is_strongest()
     ensures strongest { AnswerIsStrongest }

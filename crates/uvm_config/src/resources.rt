@@ -1,24 +1,24 @@
-//! The value of a setting with its precedence, and which of two answers.
+//! The value and the precedence of a setting, and the choice between two settings.
 
 ghost use Rattle.std.specs.Prelude.{◌≡◌, []};
 ghost use Rattle.uvm_glob.specs.Paths.{path_text};
-ghost use Rattle.uvm_config.specs.Choice.{answer_after};
+ghost use Rattle.uvm_config.specs.ChosenValue.{answer_after};
 
 use std::marker::Model;
 use uvm_glob::{Glob, Path};
 
-// What a setting gives its field at the paths that its scope matches, which the standard calls a resource. Contracts see
-// it as an `Answer`.
+// The value that a setting gives its field, and its precedence; the standard calls it a resource. Contracts see it as an
+// `Answer`.
 #[derive(Clone, Copy)]
 pub(crate) struct Resource {
-    /// How strong it is; of those that match the greatest answers.
+    /// The precedence; of the settings that match, the one with the greatest precedence applies.
     pub precedence: u16,
     /// The value of the field.
     pub value: i64,
 }
 
 impl Model for Resource {
-    ghost use Rattle.uvm_config.specs.Choice.{Answer};
+    ghost use Rattle.uvm_config.specs.ChosenValue.{Answer};
 
     ghost Value = { Answer };
 
@@ -27,8 +27,9 @@ impl Model for Resource {
     ghost inverse = { λ a. record { precedence = a.precedence; value = a.value } };
 }
 
-// Of a setting and the one that answers so far, which was set earlier, the one that answers at a path.
-#[tactic(auto, unfolding(crate::specs::Choice::answer_after))]
+// Returns the one of two settings that applies at a path: `later`, or the one that applied so far (`before`), which was set
+// earlier.
+#[tactic(auto, unfolding(crate::specs::ChosenValue::answer_after))]
 pub(crate) fn stronger(
     scope: &Glob,
     later: Resource,

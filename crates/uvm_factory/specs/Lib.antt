@@ -2,7 +2,7 @@ pub mod Faults
 pub mod Steps
 pub mod Overrides
 pub mod Standing
-pub mod Kept
+pub mod Representation
 pub mod Observed
 pub use Rattle.uvm_glob.specs.Names
 pub use Rattle.uvm_glob.specs.Paths

@@ -6,7 +6,7 @@ ghost use Rattle.std.specs.Cmp.Lexicographic.{pointwise};
 ghost use Rattle.indexmap.specs.IndexMap.{get};
 ghost use Rattle.uvm_glob.specs.Paths.{path_text};
 ghost use Rattle.uvm_factory.specs.Faults.{refusal, type_named, register_fault, override_fault};
-ghost use Rattle.uvm_factory.specs.Kept.{Kept, types_of, step_at, next_at, resolved, IsSame};
+ghost use Rattle.uvm_factory.specs.Representation.{Representation, types_of, step_at, next_at, resolved, IsSame};
 ghost use Rattle.uvm_factory.specs.Steps.{original_of, new_of, after_instance, after_type, after_override};
 
 use crate::faults::{FactoryFault, Unmade};
@@ -19,18 +19,18 @@ use std::collections::HashMap;
 use std::marker::Model;
 use uvm_glob::{Glob, Name, Path};
 
-/// The types that are registered, and what replaces them where (IEEE 1800.2-2020, Clause 8). Contracts see the types in the order
-/// of registration, as names with kinds, and the step of each type at each path.
+/// The registered types and their overrides (IEEE 1800.2-2020, Clause 8). Contracts see the names and kinds of
+/// the types in the order of registration. They also see the override that applies to each type at each path.
 pub struct Factory {
     // The types in the order of registration.
     types: IndexMap<Name, Kind>,
-    // What overrides each type that is overridden.
+    // The overrides of each type that has any.
     standings: HashMap<TypeId, TypeOverrides>,
-    // Where the overrides take their memory.
+    // The allocator of the overrides.
     alloc: Global,
 }
 
-// (By hand, so that crates above prove no drop of what it holds.)
+// (Written by hand: crates that use a factory then need no proof about the drop of its fields.)
 impl Drop for Factory {
     fn drop(self) {
         let Factory {
@@ -46,9 +46,9 @@ impl Model for Factory {
     ghost use Rattle.std.specs.Cmp.Lexicographic.{pointwise};
     ghost use Rattle.indexmap.specs.IndexMap.{IsUnique};
     ghost use Rattle.uvm_factory.specs.Faults.{most_types};
-    ghost use Rattle.uvm_factory.specs.Kept.{Kept};
+    ghost use Rattle.uvm_factory.specs.Representation.{Representation};
 
-    ghost Value = { Kept };
+    ghost Value = { Representation };
 
     ghost view = { λ f. record { types = f.types.entries; standings = f.standings.entries } };
 
@@ -56,11 +56,11 @@ impl Model for Factory {
 }
 
 impl Factory {
-    /// The most types that a factory takes.
+    /// The maximum number of types of a factory.
     pub const MAX_TYPES: usize = 1024;
 
-    /// A factory with no types.
-    #[tactic(auto, unfolding(crate::specs::Kept::types_of, crate::specs::Kept::step_at))]
+    /// Creates a factory with no types.
+    #[tactic(auto, unfolding(crate::specs::Representation::types_of, crate::specs::Representation::step_at))]
     pub fn new(alloc: Global) -> Factory
         ensures types { types_of result ≡ [] }
         ensures steps { (type_id : ℕ) (path : List (List ℕ)) → step_at result type_id path ≡ None }
@@ -72,8 +72,9 @@ impl Factory {
         }
     }
 
-    /// Registers a type (Clause 8): the first of `Known`, `Full` and `Memory` that holds, if one does; then nothing has changed.
-    #[tactic(auto, unfolding(crate::specs::Kept::types_of, crate::specs::Kept::step_at))]
+    /// Registers a type (Clause 8) and returns its identifier. Errors: `Known` if a type has this name; `Full` if `MAX_TYPES`
+    /// types are registered; out of memory (`Memory`). An error changes nothing.
+    #[tactic(auto, unfolding(crate::specs::Representation::types_of, crate::specs::Representation::step_at))]
     pub fn register(&mut self, type_name: Name, kind: Kind) -> Result<TypeId, FactoryFault>
         ensures ok { IfOk result (λ id. (register_fault (types_of self.old) type_name ≡ None) × (id ≡ length (types_of self.old))) }
         ensures types { OnOk result (types_of self.new ≡ types_of self.old ++ (type_name, kind) ∷ []) }
@@ -92,10 +93,10 @@ impl Factory {
         Ok(TypeId::new(place as u16))
     }
 
-    /// Replaces a type by another of its kind at every path, but where an instance override of it matches: that goes before it,
-    /// whichever was given first (Clause 8). Without `replace` a type override that is there stays. Gives the first of `NoType`,
-    /// `KindDiffers` and `Memory` that holds, if one does; then nothing has changed.
-    #[tactic(auto, unfolding(crate::specs::Kept::types_of))]
+    /// Replaces a type by another of its kind at every path. An instance override that matches takes precedence, whichever was
+    /// given first (Clause 8). Without `replace`, an existing type override of the type stays in force. Errors: `NoType` if one
+    /// of the types is not registered; `KindDiffers` if their kinds differ; out of memory (`Memory`). An error changes nothing.
+    #[tactic(auto, unfolding(crate::specs::Representation::types_of))]
     pub fn override_type(
         &mut self,
         original: TypeId,
@@ -116,10 +117,10 @@ impl Factory {
         })
     }
 
-    /// Replaces a type by another of its kind at the paths that the glob matches. It goes before every type override, and of
-    /// several instance overrides that match the first given prevails (Clause 8). Gives the first of `NoType`, `KindDiffers` and
-    /// `Memory` that holds, if one does; then nothing has changed.
-    #[tactic(auto, unfolding(crate::specs::Kept::types_of))]
+    /// Replaces a type by another of its kind at the paths that the glob matches. It takes precedence over every type override.
+    /// If several instance overrides match, the first one given takes precedence (Clause 8). Errors: `NoType` if one of the types
+    /// is not registered; `KindDiffers` if their kinds differ; out of memory (`Memory`). An error changes nothing.
+    #[tactic(auto, unfolding(crate::specs::Representation::types_of))]
     pub fn override_inst(
         &mut self,
         original: TypeId,
@@ -140,10 +141,10 @@ impl Factory {
         })
     }
 
-    /// The type that is made where one is asked for at a path: where the overrides lead (Clause 8). At each step an instance
-    /// override that matches goes before a type override, and of several the first given prevails. `NoType` where the type is not
-    /// registered, else `Loop` where they lead in a loop. Takes no memory.
-    #[tactic(auto, using(crate::proofs::Rows::rows), unfolding(crate::specs::Kept::types_of))]
+    /// Returns the type to create when `asked` is requested at a path: the type at which the overrides end (Clause 8). At each
+    /// step an instance override that matches takes precedence over a type override, and the first one given over later ones.
+    /// Errors: `NoType` if the type is not registered; `Loop` if the overrides form a loop. Does not allocate.
+    #[tactic(auto, using(crate::proofs::Rows::rows), unfolding(crate::specs::Representation::types_of))]
     pub fn resolve(&self, asked: TypeId, path: &Path) -> Result<TypeId, Unmade>
         ensures { result ≡ resolved self.now path.now asked }
     {
@@ -162,16 +163,16 @@ impl Factory {
         Ok(type_id)
     }
 
-    /// What a type is replaced by at a path, if an override reaches it there. Takes no memory.
-    #[tactic(auto, unfolding(crate::specs::Kept::step_at))]
+    /// Returns the override that applies to a type at a path, if there is one. Does not allocate.
+    #[tactic(auto, unfolding(crate::specs::Representation::step_at))]
     pub fn step(&self, type_id: TypeId, path: &Path) -> Option<OverrideStep>
         ensures { result ≡ step_at self.now type_id path.now }
     {
         self.standings.get(&type_id)?.step(path)
     }
 
-    /// The type of a name, if one is registered under it. Takes no memory.
-    #[tactic(auto, unfolding(crate::specs::Kept::types_of))]
+    /// Returns the type with this name, if one is registered. Does not allocate.
+    #[tactic(auto, unfolding(crate::specs::Representation::types_of))]
     pub fn find(&self, type_name: &Name) -> Option<TypeId>
         ensures { result ≡ type_named (types_of self.now) type_name.now }
     {
@@ -181,8 +182,8 @@ impl Factory {
         }
     }
 
-    /// The name of a type, if it is registered. Takes no memory.
-    #[tactic(auto, unfolding(crate::specs::Kept::types_of))]
+    /// Returns the name of a type, if it is registered. Does not allocate.
+    #[tactic(auto, unfolding(crate::specs::Representation::types_of))]
     pub fn name_of(&self, type_id: TypeId) -> Option<&Name>
         ensures { option_copied result ≡ option_map (λ t. t.0) (slice_get (types_of self.now) type_id) }
     {
@@ -192,8 +193,8 @@ impl Factory {
         }
     }
 
-    /// The kind of a type, if it is registered. Takes no memory.
-    #[tactic(auto, unfolding(crate::specs::Kept::types_of))]
+    /// Returns the kind of a type, if it is registered. Does not allocate.
+    #[tactic(auto, unfolding(crate::specs::Representation::types_of))]
     pub fn kind_of(&self, type_id: TypeId) -> Option<Kind>
         ensures { result ≡ option_map (λ t. t.1) (slice_get (types_of self.now) type_id) }
     {
@@ -203,8 +204,9 @@ impl Factory {
         }
     }
 
-    // Adds an override, if its types are of one kind.
-    #[tactic(auto, unfolding(crate::specs::Kept::types_of, crate::specs::Kept::step_at))]
+    // Adds an override. Errors: `NoType` if one of its types is not registered; `KindDiffers` if their kinds differ; out of
+    // memory (`Memory`). An error changes nothing.
+    #[tactic(auto, unfolding(crate::specs::Representation::types_of, crate::specs::Representation::step_at))]
     fn add(&mut self, given: Override) -> Result<(), FactoryFault>
         ensures ok { OnOk result (override_fault (types_of self.old) (original_of given) (new_of given) ≡ None) }
         ensures steps { OnOk result ((type_id : ℕ) (path : List (List ℕ)) →
@@ -220,8 +222,8 @@ impl Factory {
         Ok(())
     }
 
-    // Why a type is not overridden by another.
-    #[tactic(auto, unfolding(crate::specs::Kept::types_of))]
+    // Returns why a type cannot be overridden by another: `NoType`, then `KindDiffers`; `None` if it can.
+    #[tactic(auto, unfolding(crate::specs::Representation::types_of))]
     fn override_fault(&self, original: TypeId, new: TypeId) -> Option<FactoryFault>
         ensures { result ≡ override_fault (types_of self.now) original new }
     {
@@ -232,7 +234,7 @@ impl Factory {
         }
     }
 
-    // The next type of the row, if it is another.
+    // Returns the type that replaces a type at a path, if it is a different type.
     fn next(&self, type_id: TypeId, path: &Path) -> Option<TypeId>
         ensures { result ≡ next_at self.now path.now type_id }
     {
@@ -241,7 +243,7 @@ impl Factory {
     }
 }
 
-// Adds a type behind the others.
+// Adds a type after the others. Errors: out of memory. An error changes nothing.
 fn add_type(types: &mut IndexMap<Name, Kind>, type_name: Name, kind: Kind) -> Result<(), AllocError>
     requires { get (pointwise nat_eq) types.old type_name ≡ None }
     ensures ok { OnOk result (types.new.entries ≡ types.old.entries ++ (type_name, kind) ∷ []) }

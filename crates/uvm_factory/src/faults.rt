@@ -1,22 +1,22 @@
-//! Why a call of the factory is refused.
+//! The errors of the factory.
 
 use std::alloc::{AllocError, AllocFailed};
 use std::error::Error;
 use std::fmt;
 
-/// Why the factory does not register or override, in the order in which it is looked for. A call that is refused changes
-/// nothing.
+/// The reason why a call of `register`, `override_type` or `override_inst` fails. The variants of one call are in the order of
+/// its checks. An error changes nothing.
 #[derive(Clone, Copy, Debug, PartialEq, Eq)]
 pub enum FactoryFault {
-    /// A type of that name is registered already (`register`).
+    /// A type with this name is already registered (`register`).
     Known,
     /// One of the two types is not registered (`override_type`, `override_inst`).
     NoType,
-    /// One of the two types is a component's and the other a sequence's (`override_type`, `override_inst`).
+    /// One of the two types is a component type and the other a sequence type (`override_type`, `override_inst`).
     KindDiffers,
-    /// `Factory::MAX_TYPES` types are registered, and one more would be next (`register`).
+    /// `Factory::MAX_TYPES` types are already registered (`register`).
     Full,
-    /// Memory was refused.
+    /// Out of memory.
     Memory,
 }
 
@@ -61,12 +61,12 @@ impl<T: Drop> From<AllocFailed<T>> for FactoryFault {
     }
 }
 
-/// Why no type is made, in the order in which it is looked for.
+/// The reason why `Factory::resolve` returns no type. The variants are in the order of the checks.
 #[derive(Clone, Copy, Debug, PartialEq, Eq)]
 pub enum Unmade {
-    /// The type that is asked for is not registered.
+    /// The requested type is not registered.
     NoType,
-    /// The overrides lead from the type in a loop: through more steps than there are types.
+    /// The overrides form a loop: more steps lead from the type than there are registered types.
     Loop,
 }
 

@@ -1,33 +1,33 @@
-//! Laws of the definitions: what they say, in other words. The functions do nothing; their contracts are the laws.
+//! Laws of the definitions. These functions have no run-time effect: call one where a proof needs its `ensures`.
 
 ghost use Rattle.uvm_factory.specs.Steps.{MadeIsEnd};
 ghost use Rattle.uvm_factory.specs.Overrides.{NoneGivenNoStep, StepsAreGiven, StepsAreGivenInOrder, StepsReplace};
 
-/// What is made is the end of the row of types, where it has no more steps than allowed, and a longer row makes nothing.
+/// States that `made` returns the last type of a chain of overrides. It returns no type if the chain has more steps than allowed.
 #[tactic(auto, using(crate::proofs::Ends::made_is_end))]
 pub fn made_is_end()
     ensures { MadeIsEnd }
 {}
 
-/// A step leads to the type that takes the place of a type.
+/// States that the override that applies to a type leads to the type that replaces it.
 #[tactic(auto, using(crate::proofs::Given::steps_replace))]
 pub fn steps_replace()
     ensures { StepsReplace }
 {}
 
-/// Where no override is given no type has a step.
+/// States that no override applies to a type if none is given.
 #[tactic(auto, using(crate::proofs::Given::none_given_no_step))]
 pub fn none_given_no_step()
     ensures { NoneGivenNoStep }
 {}
 
-/// One more override changes the step of a type as the clauses of the overriding calls say.
+/// States how one more override changes the override that applies to a type: as `override_type` and `override_inst` ensure.
 #[tactic(auto, using(crate::proofs::Given::steps_are_given))]
 pub fn steps_are_given()
     ensures { StepsAreGiven }
 {}
 
-/// The same of a list in the order in which its overrides were given, over which a loop goes.
+/// States the same for a list of overrides in the order in which they were given, for use in a loop over the list.
 #[tactic(auto, using(crate::proofs::Given::steps_are_given_in_order))]
 pub fn steps_are_given_in_order()
     ensures { StepsAreGivenInOrder }

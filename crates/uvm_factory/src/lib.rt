@@ -1,4 +1,4 @@
-//! The factory: which type is made where a type is asked for at a path (IEEE 1800.2-2020, Clause 8).
+//! The factory: it decides which type to create when a type is requested at a path (IEEE 1800.2-2020, Clause 8).
 #![tactic(auto)]
 
 mod factories;

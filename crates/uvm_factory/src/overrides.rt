@@ -1,4 +1,4 @@
-//! Overrides, and what they do to a type.
+//! Overrides, and their results for a type.
 
 ghost use Rattle.std.specs.Prelude.{◌≡◌, IfOk};
 ghost use Rattle.uvm_factory.specs.Steps.{type_in, original_of, new_of};
@@ -10,32 +10,32 @@ use uvm_glob::Glob;
 /// An override of a type by another (IEEE 1800.2-2020, Clause 8).
 #[derive(Drop)]
 pub enum Override {
-    /// An instance override: it holds at the paths that the glob matches.
+    /// An instance override: it applies at the paths that the glob matches.
     Instance {
         /// The type that is replaced.
         original: TypeId,
         /// The type that replaces it.
         new: TypeId,
-        /// Matches the whole paths at which the override holds.
+        /// The glob of the paths at which the override applies. It matches whole paths.
         scope: Glob,
     },
-    /// A type override: it holds at every path.
+    /// A type override: it applies at every path.
     Whole {
         /// The type that is replaced.
         original: TypeId,
         /// The type that replaces it.
         new: TypeId,
-        /// Whether it takes the place of a type override that was there before; otherwise it gives way to it.
+        /// Whether it replaces an earlier type override of the type; otherwise the earlier one stays in force.
         replace: bool,
     },
 }
 
-/// What a type is replaced by at a path.
+/// The override that applies to a type at a path.
 #[derive(Clone, Copy, PartialEq, Eq)]
 pub enum OverrideStep {
-    /// By this type, in an instance override.
+    /// An instance override, with the type that replaces it.
     ByInstance(TypeId),
-    /// By this type, in a type override.
+    /// A type override, with the type that replaces it.
     ByType(TypeId),
 }
 
@@ -51,7 +51,7 @@ impl OverrideStep {
 }
 
 impl Override {
-    /// An equal override. Errors: out of memory.
+    /// Returns an equal override. Errors: out of memory.
     pub fn copy(&self) -> Result<Override, AllocError>
         ensures { IfOk result (λ o. o ≡ self.now) }
     {

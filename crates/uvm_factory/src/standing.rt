@@ -1,4 +1,4 @@
-//! What overrides one type.
+//! The overrides of one type.
 
 ghost use Rattle.std.specs.Prelude.{◌≡◌, ℕ, List, [], None, OnOk, OnErr};
 ghost use Rattle.uvm_glob.specs.Paths.{path_text};
@@ -13,13 +13,13 @@ use std::collections::HashMap;
 use std::marker::Model;
 use uvm_glob::{Glob, Path};
 
-/// What overrides one type. Contracts see it as a `Standing`.
+/// The overrides of one type. Contracts see them as a `Standing`.
 #[derive(Drop)]
 pub(crate) struct TypeOverrides {
-    // The type that replaces it in the one type override that is in force, if one was given.
+    // The type that replaces it by the type override in force, if one was given.
     by_type: Option<TypeId>,
-    // The types that replace it at the paths that a scope matches, in the order in which they were given, but for those behind
-    // one of the same scope.
+    // The types that replace it by instance overrides, by scope, in the order in which they were given. Of those with the same
+    // scope, only the first is kept.
     instances: IndexMap<Glob, TypeId>,
 }
 
@@ -32,7 +32,7 @@ impl Model for TypeOverrides {
 }
 
 impl TypeOverrides {
-    /// No overrides.
+    /// Creates an empty set of overrides.
     #[tactic(auto, unfolding(crate::specs::Standing::standing_step))]
     pub fn new(alloc: Global) -> TypeOverrides
         ensures { (text : List ℕ) → standing_step result text ≡ None }
@@ -43,7 +43,7 @@ impl TypeOverrides {
         }
     }
 
-    /// Adds an override of the type. Gives an error where memory was refused.
+    /// Adds an override of the type. Errors: out of memory. An error changes nothing.
     #[tactic(auto, unfolding(crate::specs::Standing::standing_step))]
     pub fn add(&mut self, given: Override) -> Result<(), AllocError>
         ensures steps { OnOk result ((text : List ℕ) → standing_step self.new text ≡ after_own given text (standing_step self.old text)) }
@@ -51,7 +51,7 @@ impl TypeOverrides {
     {
         match given {
             Override::Instance { new, scope, .. } => {
-                // Behind one at its scope it can never prevail.
+                // An earlier override with the same scope always takes precedence.
                 if self.instances.contains_key(&scope) {
                     return Ok(());
                 }
@@ -66,7 +66,7 @@ impl TypeOverrides {
         Ok(())
     }
 
-    /// What the type is replaced by at a path, if an override holds there.
+    /// Returns the override that applies to the type at a path, if there is one.
     #[tactic(auto, unfolding(crate::specs::Standing::standing_step))]
     pub fn step(&self, path: &Path) -> Option<OverrideStep>
         ensures { result ≡ standing_step self.now (path_text path.now) }
@@ -78,7 +78,7 @@ impl TypeOverrides {
     }
 }
 
-// The type of the first instance override that holds at a path.
+// Returns the new type of the first instance override that applies at a path.
 fn first_matching(instances: &IndexMap<Glob, TypeId>, path: &Path) -> Option<TypeId>
     ensures { result ≡ placed_at instances.now.entries (path_text path.now) }
 {
@@ -90,7 +90,7 @@ fn first_matching(instances: &IndexMap<Glob, TypeId>, path: &Path) -> Option<Typ
     None
 }
 
-/// Adds an override to those of its type. Gives an error where memory was refused.
+/// Adds an override to those of its type. Errors: out of memory. An error changes nothing.
 pub(crate) fn add(
     standings: &mut HashMap<TypeId, TypeOverrides>,
     alloc: Global,

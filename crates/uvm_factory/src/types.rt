@@ -1,20 +1,20 @@
-//! What a type is.
+//! The types of a factory and their kinds.
 
 ghost use Rattle.std.specs.Prelude.{◌≡◌};
 
 use std::marker::Model;
 
-/// What objects of a type are. A type is overridden by types of its own kind alone.
+/// The kind of the objects of a type. Only a type of the same kind can override a type.
 #[derive(Clone, Copy, PartialEq, Eq)]
 pub enum Kind {
-    /// Components, which stand in the tree of a testbench.
+    /// Components, which are part of the component tree of a testbench.
     Component,
-    /// Sequences, which stand in no tree.
+    /// Sequences, which are not part of the component tree.
     Sequence,
 }
 
-/// A type of a factory: its place in the order of registration, from 0. A factory gives these numbers; one of another
-/// factory stands for the type at the same place.
+/// The identifier of a type in a factory: its place in the order of registration, from 0. A factory returns it from `register`.
+/// An identifier from another factory refers to the type at the same place.
 #[derive(Clone, Copy, PartialEq, Eq, Hash)]
 pub struct TypeId {
     place: u16,
@@ -31,14 +31,14 @@ impl Model for TypeId {
 }
 
 impl TypeId {
-    /// The type at a place, from 0, whether or not a factory has one there.
+    /// Creates the identifier of the type at a place, from 0, even if a factory has no type there.
     pub fn new(place: u16) -> TypeId
         ensures { result ≡ place }
     {
         TypeId { place }
     }
 
-    /// The place, from 0.
+    /// Returns the place, from 0.
     pub fn place(self) -> usize
         ensures { result ≡ self }
     {

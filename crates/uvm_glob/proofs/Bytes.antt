@@ -1,16 +1,5 @@
 -- The bytes of names and paths may stand in a glob, and those of a glob are ASCII.
-use Rattle.std.proofs.Common.{◌≡◌, ℕ, ◌<◌, true, None, List, [], ◌∷◌, refl, ◌∙◌, arith}
-use Rattle.std.specs.List.{list_all}
-use Rattle.std.specs.Str.{IsAscii, IsUtf8}
-use Rattle.std.proofs.lemmas.Bool.{and_parts, not-false}
-use Rattle.std.proofs.lemmas.Bool.Decides.{nat_tests}
-use Rattle.std.proofs.lemmas.List.Folds.{list_all-append}
-use Rattle.std.proofs.lemmas.Str.{IsUtf8-from_ascii}
-use Rattle.std.proofs.lemmas.Str.Ascii.{IsAscii-nil, IsAscii-cons}
-use Rattle.uvm_glob.specs.Names.{is_name_byte, name_fault}
-use Rattle.uvm_glob.specs.Globs.{is_glob_byte, glob_fault}
-use Rattle.uvm_glob.specs.Printed.{IsPrinted, is_printed_byte}
-use Rattle.uvm_glob.specs.Paths.{path_text, path_fault, dotted}
+use Rattle.uvm_glob.proofs.Common.{◌≡◌, ℕ, ◌<◌, true, None, List, [], ◌∷◌, refl, ◌∙◌, arith, list_all, IsAscii, IsUtf8, and_parts, not-false, nat_tests, list_all-append, IsUtf8-from_ascii, IsAscii-nil, IsAscii-cons, is_name_byte, name_fault, is_glob_byte, glob_fault, IsPrinted, is_printed_byte, path_text, path_fault, dotted}
 use Rattle.uvm_glob.proofs.PathTexts.{path-no_fault, fault-name, no_glob_fault}
 
 -- a byte of a glob is ASCII

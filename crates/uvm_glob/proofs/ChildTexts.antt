@@ -1,9 +1,5 @@
 -- The path of a child, as one text and another.
-use Rattle.std.proofs.Common.{◌≡◌, ℕ, ◌+◌, ◌≤◌, List, [], ◌∷◌, ◌++◌, length, None, ◌∙◌, sym, ap}
-use Rattle.std.proofs.lemmas.Bool.{ltb-false}
-use Rattle.uvm_glob.specs.Limits.{most_name_bytes}
-use Rattle.uvm_glob.specs.Names.{name_fault}
-use Rattle.uvm_glob.specs.Paths.{names_of, path_fault, dotted, size_fault}
+use Rattle.uvm_glob.proofs.Common.{◌≡◌, ℕ, ◌+◌, ◌≤◌, List, [], ◌∷◌, ◌++◌, length, None, ◌∙◌, sym, ap, ltb-false, most_name_bytes, name_fault, names_of, path_fault, dotted, size_fault}
 use Rattle.uvm_glob.proofs.PathTexts.{no_name_fault, names_of-name, fault-name, names_of-dotted, fault-dotted}
 
 -- a name is short

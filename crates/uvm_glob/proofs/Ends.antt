@@ -1,10 +1,5 @@
 -- A text that a glob matches ends with the glob's last part.
-use Rattle.std.proofs.Common.{◌≡◌, ℕ, Bool, true, false, ◌==◌, MatchBool, List, [], ◌∷◌, ◌++◌, length, take, drop, inl, inr, refl, sym, ◌∙◌, arith}
-use Rattle.std.proofs.lemmas.Bool.{cases_order, false≢true}
-use Rattle.std.proofs.lemmas.List.{take-append-drop}
-use Rattle.std.specs.List.{list_any}
-use Rattle.uvm_glob.specs.Globs.{SomeSplit, Matches, matches}
-use Rattle.uvm_glob.specs.Parts.{is_star, fits_at_end}
+use Rattle.uvm_glob.proofs.Common.{◌≡◌, ℕ, Bool, true, false, ◌==◌, MatchBool, List, [], ◌∷◌, ◌++◌, length, take, drop, inl, inr, refl, sym, ◌∙◌, arith, cases_order, false≢true, take-append-drop, list_any, SomeSplit, Matches, matches, is_star, fits_at_end}
 use Rattle.uvm_glob.proofs.Parts.{fits_at_end_whole, fits_at_end_longer, fits_at_end_short}
 use Rattle.uvm_glob.proofs.Splits.{last_part_longer, last_part_short, last_part_whole}
 use Rattle.uvm_glob.proofs.Meaning.{matches_means}

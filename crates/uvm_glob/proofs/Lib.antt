@@ -1,5 +1,6 @@
 pub mod Bytes
 pub mod ChildTexts
+mod Common
 pub mod Ends
 pub mod Literals
 pub mod Meaning

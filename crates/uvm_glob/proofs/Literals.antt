@@ -1,9 +1,5 @@
 -- What passes its test has no fault.
-use Rattle.std.proofs.Common.{◌≡◌, ℕ, true, List, Option, Some, None, IsTrue, is_none, refl}
-use Rattle.uvm_glob.specs.Lists.{first_given}
-use Rattle.uvm_glob.specs.Names.{is_name, name_fault, name_faults}
-use Rattle.uvm_glob.specs.Paths.{is_path, names_of, path_fault, path_faults}
-use Rattle.uvm_glob.specs.Globs.{glob_fault, glob_faults, is_glob}
+use Rattle.uvm_glob.proofs.Common.{◌≡◌, ℕ, true, List, Option, Some, None, IsTrue, is_none, refl, first_given, is_name, name_fault, name_faults, is_path, names_of, path_fault, path_faults, glob_fault, glob_faults, is_glob}
 
 none-given : {A : Type 0} (given : Option A) → is_none given ≡ true → given ≡ None
 none-given None is = refl

@@ -1,9 +1,5 @@
 -- The test `matches` says what the relation `Matches` says.
-use Rattle.std.proofs.Common.{◌≡◌, ◌≢◌, ◌↔◌, inl, inr, ℕ, Bool, true, false, cond, ◌==◌, MatchBool, List, [], ◌∷◌, ◌++◌, length, refl, sym, ap, arith, eqb-true, eq-eqb}
-use Rattle.std.specs.List.{list_any}
-use Rattle.std.proofs.lemmas.Bool.{or_cases, or_left, or_right, and_parts, and_from}
-use Rattle.std.proofs.lemmas.List.{nil_from_length}
-use Rattle.uvm_glob.specs.Globs.{SomeSplit, Matches, rests_of, after_one, matches}
+use Rattle.uvm_glob.proofs.Common.{◌≡◌, ◌≢◌, ◌↔◌, inl, inr, ℕ, Bool, true, false, cond, ◌==◌, MatchBool, List, [], ◌∷◌, ◌++◌, length, refl, sym, ap, arith, eq-eqb, list_any, or_cases, or_left, or_right, and_parts, and_from, nil_from_length, SomeSplit, Matches, rests_of, after_one, matches, eqb-true}
 
 -- a split of the text is one of the longer text
 longer_split : (b : ℕ) (text : List ℕ) (Q : List ℕ → Type 0) → SomeSplit text (λ u v. Q v) → SomeSplit (b ∷ text) (λ u v. Q v)

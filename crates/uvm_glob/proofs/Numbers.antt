@@ -1,16 +1,5 @@
 -- Numbers and integers in decimal are printed.
-use Rattle.std.proofs.Common.{◌≡◌, ℕ, suc, ◌<◌, ◌^◌, true, List, [], ◌∷◌, refl, arith}
-use Rattle.std.specs.Prelude.{ℤ, pos, negsuc}
-use Rattle.std.specs.Char.{is_ascii_digit}
-use Rattle.std.specs.Fmt.{decimal, signed_decimal}
-use Rattle.std.specs.Int.Signed.{mag}
-use Rattle.std.specs.List.{list_all}
-use Rattle.std.specs.Str.{all_ascii_digits}
-use Rattle.std.proofs.lemmas.Bool.{and_parts}
-use Rattle.std.proofs.lemmas.Bool.Decides.{nat_tests}
-use Rattle.std.proofs.lemmas.Fmt.{digits_decimal}
-use Rattle.std.proofs.lemmas.Str.Parse.{numerals_by_value, tells_all_ascii_digits}
-use Rattle.uvm_glob.specs.Printed.{IsPrinted, NumbersArePrinted, is_printed_byte}
+use Rattle.uvm_glob.proofs.Common.{◌≡◌, ℕ, suc, ◌<◌, ◌^◌, true, List, [], ◌∷◌, refl, arith, ℤ, pos, negsuc, is_ascii_digit, decimal, signed_decimal, mag, list_all, all_ascii_digits, and_parts, nat_tests, digits_decimal, numerals_by_value, tells_all_ascii_digits, IsPrinted, NumbersArePrinted, is_printed_byte}
 
 digit-printed : (b : ℕ) → is_ascii_digit b ≡ true → is_printed_byte b ≡ true
 digit-printed b good = grind (arith, nat_tests)

@@ -1,9 +1,5 @@
 -- Where a part fits in a text.
-use Rattle.std.proofs.Common.{◌≡◌, ℕ, zero, suc, ◌+◌, ◌-◌, ◌<◌, ◌≤◌, true, false, ◌&&◌, ◌||◌, ◌==◌, List, [], ◌∷◌, length, drop, get_or, leb, Some, None, refl, sym, arith, add-one, le-leb}
-use Rattle.std.proofs.lemmas.Bool.{and_right, and_left, lt-leb, cond-true, cond-false, false≢true}
-use Rattle.std.proofs.lemmas.Grind.{common_steps}
-use Rattle.std.proofs.lemmas.List.{drop_more}
-use Rattle.uvm_glob.specs.Parts.{is_star, begins_with_star, fits, fits_at_end, after_first_fit}
+use Rattle.uvm_glob.proofs.Common.{◌≡◌, ℕ, zero, suc, ◌+◌, ◌-◌, ◌<◌, ◌≤◌, true, false, ◌&&◌, ◌||◌, ◌==◌, List, [], ◌∷◌, length, drop, get_or, leb, Some, None, refl, sym, arith, add-one, le-leb, and_right, and_left, lt-leb, cond-true, cond-false, false≢true, common_steps, drop_more, is_star, begins_with_star, fits, fits_at_end, after_first_fit}
 
 -- a glob from a star on begins with it
 pub star_here : (glob : List ℕ) (i : ℕ) → i < length glob → begins_with_star (drop i glob) ≡ is_star (get_or glob i 0)

@@ -1,18 +1,6 @@
 -- The names that a text stands for, and the text of names.
-use Rattle.std.proofs.Common.{◌≡◌, ℕ, ◌+◌, ◌≤◌, Bool, true, false, ◌==◌, nat_lt, List, [], ◌∷◌, ◌++◌, length, Some, None, refl, sym, ap, subst, ◌∙◌, inl, inr, arith}
-use Rattle.std.specs.List.{list_any, list_all, count_by}
-use Rattle.std.proofs.lemmas.Bool.{false≢true, cases_Bool, eqb-true, or_parts, and_parts, not-false, ltb-false, le-ltb}
-use Rattle.std.proofs.lemmas.List.{length-append, append_assoc, append-nil}
-use Rattle.std.proofs.lemmas.List.Folds.{list_any-append, list_all-append}
-use Rattle.std.proofs.lemmas.List.Splits.{join_with_byte-slice_split, length-slice_split}
-use Rattle.uvm_glob.specs.declared.faults.PathFault.{PathFault}
-use Rattle.uvm_glob.specs.declared.faults.PathFault.TheVariants.{Empty, TooLong, BadByte, TooDeep}
-use Rattle.uvm_glob.specs.Limits.{most_name_bytes, most_names, most_text_bytes}
-use Rattle.uvm_glob.specs.Lists.{first_given}
-use Rattle.uvm_glob.specs.Faults.{fault_if, refusal}
-use Rattle.uvm_glob.specs.Names.{is_name_byte, name_fault}
-use Rattle.uvm_glob.specs.Globs.{glob_fault}
-use Rattle.uvm_glob.specs.Paths.{path_text, path_fault, between_dots, names_of, dotted, size_fault}
+use Rattle.uvm_glob.proofs.Common.{◌≡◌, ℕ, ◌+◌, ◌≤◌, Bool, true, false, ◌==◌, nat_lt, List, [], ◌∷◌, ◌++◌, length, Some, None, refl, sym, ap, subst, ◌∙◌, inl, inr, arith, list_any, list_all, false≢true, cases_Bool, or_parts, and_parts, not-false, ltb-false, le-ltb, length-append, append_assoc, list_any-append, list_all-append, join_with_byte-slice_split, length-slice_split, PathFault, Empty, TooLong, BadByte, TooDeep, most_name_bytes, most_names, most_text_bytes, first_given, fault_if, refusal, is_name_byte, name_fault, glob_fault, path_text, path_fault, between_dots, names_of, dotted, size_fault, eqb-true, append-nil}
+use Rattle.std.specs.List.{count_by}
 
 -- the text of what stands between the dots of a text is that text
 pub path_text-between_dots : (text : List ℕ) → path_text (between_dots text) ≡ text

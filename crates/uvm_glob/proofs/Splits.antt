@@ -1,11 +1,5 @@
 -- How a match goes over the parts of a glob.
-use Rattle.std.proofs.Common.{◌≡◌, ℕ, zero, suc, ◌<◌, Bool, true, false, cond, ◌&&◌, ◌||◌, ◌==◌, List, [], ◌∷◌, ◌++◌, length, drop, Option, Some, None, inl, inr, refl, sym, ap, subst, ◌∙◌, arith, append-nil, length-drop, eq-eqb, ne_eqb, eqb-true}
-use Rattle.std.proofs.Math.Bool.{and_assoc}
-use Rattle.std.proofs.Math.Seq.{drop-nil}
-use Rattle.std.proofs.lemmas.Bool.{and_left, and_right, or_right, or_parts, or_cases, cases_order, false≢true}
-use Rattle.std.specs.List.{list_any}
-use Rattle.uvm_glob.specs.Globs.{rests_of, matches}
-use Rattle.uvm_glob.specs.Parts.{is_star, begins_with_star, fits, fits_at_end, after_first_fit, after_least}
+use Rattle.uvm_glob.proofs.Common.{◌≡◌, ℕ, zero, suc, ◌<◌, Bool, true, false, cond, ◌&&◌, ◌||◌, ◌==◌, List, [], ◌∷◌, ◌++◌, length, drop, Option, Some, None, inl, inr, refl, sym, ap, subst, ◌∙◌, arith, length-drop, eq-eqb, ne_eqb, and_assoc, drop-nil, and_left, and_right, or_right, or_parts, or_cases, cases_order, false≢true, list_any, rests_of, matches, is_star, begins_with_star, fits, fits_at_end, after_first_fit, after_least, append-nil, eqb-true}
 use Rattle.uvm_glob.proofs.Parts.{fits_short, fits_at_end_short, fits_at_end_whole, fits_at_end_longer}
 
 -- a character that is `?` or stands for itself

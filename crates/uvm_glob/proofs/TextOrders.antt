@@ -1,16 +1,5 @@
 -- What two texts have where they first differ decides how their paths stand in Down and in Up.
-use Rattle.std.proofs.Common.{◌≡◌, ◌≢◌, ℕ, ◌+◌, ◌<◌, false, ◌==◌, nat_eq, List, [], ◌∷◌, length, Option, Some, refl, sym, ap, subst, ◌∙◌, inl, inr, arith}
-use Rattle.std.specs.declared.cmp.Ordering.{Ordering}
-use Rattle.std.specs.declared.cmp.Ordering.TheVariants.{Less, Equal, Greater}
-use Rattle.std.specs.Bool.{one_answer}
-use Rattle.std.specs.Ordering.{nat_cmp, ordering_then}
-use Rattle.std.specs.Cmp.{nat_cmp_is, nat_cmp_total}
-use Rattle.std.specs.Cmp.Lexicographic.{slice_cmp, pointwise, pointwise_decides, bytes_decides}
-use Rattle.std.proofs.lemmas.Bool.{cases_Bool, eqb-true, eqb-false, false≢true}
-use Rattle.std.proofs.lemmas.Cmp.{tied_itself, ranked}
-use Rattle.uvm_glob.specs.Differences.{first_difference, rank}
-use Rattle.uvm_glob.specs.Orders.{down_cmp, up_cmp}
-use Rattle.uvm_glob.specs.Paths.{between_dots, names_of, path_text}
+use Rattle.uvm_glob.proofs.Common.{◌≡◌, ◌≢◌, ℕ, ◌+◌, ◌<◌, false, ◌==◌, nat_eq, List, [], ◌∷◌, length, Option, Some, refl, sym, ap, subst, ◌∙◌, inl, inr, arith, Ordering, Less, Equal, Greater, one_answer, nat_cmp, ordering_then, nat_cmp_is, nat_cmp_total, slice_cmp, pointwise, pointwise_decides, bytes_decides, cases_Bool, eqb-false, false≢true, tied_itself, ranked, first_difference, rank, down_cmp, up_cmp, between_dots, names_of, path_text, eqb-true}
 use Rattle.uvm_glob.proofs.PathTexts.{path_text-names_of}
 
 -- something stands between the dots of each text

@@ -1,13 +1,5 @@
 -- The orders of paths are total.
-use Rattle.std.proofs.Common.{◌≡◌, ℕ, List, [], ◌∷◌, Option, Some, None, refl, ap, subst}
-use Rattle.std.specs.declared.cmp.Ordering.{Ordering}
-use Rattle.std.specs.Ordering.{nat_cmp, ordering_then, flip_args}
-use Rattle.std.specs.Option.{option_cmp}
-use Rattle.std.specs.Cmp.{IsTotalOrder, on_total, back_total}
-use Rattle.std.specs.Cmp.Lexicographic.{slice_cmp, lists_total, options_total, nat_list_cmp_total}
-use Rattle.uvm_glob.specs.declared.orders.Direction.{Direction}
-use Rattle.uvm_glob.specs.declared.orders.Direction.TheVariants.{Down, Up}
-use Rattle.uvm_glob.specs.Orders.{up_cmp, order_of}
+use Rattle.uvm_glob.proofs.Common.{◌≡◌, ℕ, List, [], ◌∷◌, Option, Some, None, refl, ap, subst, Ordering, nat_cmp, ordering_then, flip_args, option_cmp, IsTotalOrder, on_total, back_total, slice_cmp, lists_total, options_total, nat_list_cmp_total, Direction, Down, Up, up_cmp, order_of}
 
 -- the names of a path, and its end
 abbrev with_end : List (List ℕ) → List (Option (List ℕ))

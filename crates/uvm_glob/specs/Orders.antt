@@ -11,11 +11,11 @@ use Rattle.uvm_glob.specs.declared.orders.Direction.TheVariants.{Down, Up}
 abbrev pub PathOrder : Type 0
 PathOrder = List (List ℕ) → List (List ℕ) → Ordering
 
--- Down: name by name in byte order, and a path before the paths that go on from it
+-- the order `Down`: name by name in byte order, and a path before its descendants
 abbrev pub down_cmp : PathOrder
 down_cmp = slice_cmp (slice_cmp nat_cmp)
 
--- Up: name by name in byte order, and a path after the paths that go on from it
+-- the order `Up`: name by name in byte order, and a path after its descendants
 abbrev pub up_cmp : PathOrder
 up_cmp [] [] = Equal
 up_cmp [] (y ∷ ys) = Greater

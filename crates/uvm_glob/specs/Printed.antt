@@ -4,15 +4,15 @@ use Rattle.std.specs.Fmt.{decimal, signed_decimal}
 use Rattle.std.specs.Int.Signed.{mag}
 use Rattle.std.specs.List.{list_all}
 
--- a byte that is printed: a blank or a visible character of ASCII
+-- whether a byte is printable: a blank or a visible character of ASCII
 abbrev pub is_printed_byte : ℕ → Bool
 is_printed_byte b = nat_le 32 b && nat_le b 126
 
--- each byte of a text is printed, so none of them is a newline
+-- every byte of a text is printable, so the text has no newline
 abbrev pub IsPrinted : List ℕ → Type 0
 IsPrinted text = list_all is_printed_byte text ≡ true
 
--- numbers and integers of 64 bits are printed
+-- the decimal texts of 64-bit numbers and integers are printable
 pub record NumbersArePrinted : Type 0 where
   pub numbers : (n : ℕ) → n < 2 ^ 64 → IsPrinted (decimal n)
   pub integers : (z : ℤ) → mag z < 2 ^ 63 → IsPrinted (signed_decimal z)

@@ -1,22 +1,22 @@
-//! Why a text is refused.
+//! The error of a text that is not a name, path or glob.
 
 use std::alloc::{AllocError, AllocFailed};
 use std::error::Error;
 use std::fmt;
 
-/// Why a text is no name, path or glob. The variants stand in the order in which they are looked for, each over the
-/// whole text.
+/// The reason why a text is not a name, path or glob, or why its value was not created. The variants are in the order of the
+/// checks; each check covers the whole text.
 #[derive(Clone, Copy, Debug, PartialEq, Eq)]
 pub enum PathFault {
     /// A name has no byte, or the text of a path has none.
     Empty,
-    /// A name has more than `Name::MAX_LEN` bytes, or a path or a glob more than `Path::MAX_LEN`.
+    /// A name has more than `Name::MAX_LEN` bytes, or a path or glob has more than `Path::MAX_LEN`.
     TooLong,
-    /// A byte may not stand there.
+    /// The text has a byte that is not allowed.
     BadByte,
     /// A path has more than `Path::MAX_NAMES` names.
     TooDeep,
-    /// Memory was refused.
+    /// Out of memory; the text itself is valid.
     Memory,
 }
 

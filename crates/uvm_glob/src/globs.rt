@@ -1,4 +1,4 @@
-//! Globs, and which paths they match.
+//! Globs, and the paths that they match.
 
 ghost use Rattle.std.specs.Prelude.{◌≡◌, ◌↔◌, IsTrue, IfOk, IfErr, None, nat_eq, true};
 ghost use Rattle.std.specs.List.{list_all};
@@ -21,8 +21,8 @@ use std::fmt;
 use std::hash::{Hash, Hasher};
 use std::marker::Model;
 
-/// A glob: bytes of 0x21 to 0x7E without `/`. `*` stands for zero or more characters, `+` for one or more, `?` for
-/// exactly one, and every other character for itself, `.` and `[` among them. Contracts see its bytes.
+/// A glob: bytes from 0x21 to 0x7E, except `/`. `*` stands for zero or more characters, `+` for one or more, and `?` for exactly
+/// one. Every other character stands for itself, including `.` and `[`. Contracts see its bytes.
 #[derive(Drop)]
 pub struct Glob {
     text: Vec<u8>,
@@ -41,11 +41,11 @@ impl Model for Glob {
 }
 
 impl Glob {
-    /// The most bytes of a glob that `new` takes. One made by `under` may have more.
+    /// The maximum number of bytes of a glob that `new` accepts. A glob that `under` returns may have more.
     pub const MAX_LEN: usize = Path::MAX_LEN;
 
-    /// The glob with this text, which may be empty: the first of `TooLong`, `BadByte` and `Memory` that holds, if one
-    /// does.
+    /// Creates the glob with this text, which may be empty. Errors: `TooLong` if the text has more than `MAX_LEN` bytes;
+    /// `BadByte` if a byte is not allowed in a glob; out of memory (`Memory`).
     pub fn new(alloc: Global, text: &[u8]) -> Result<Glob, PathFault>
         ensures ok { IfOk result (λ glob. (glob_fault text.now ≡ None) × (glob ≡ text.now)) }
         ensures err { IfErr result (λ fault. glob_fault text.now ≡ refusal fault) }
@@ -58,7 +58,7 @@ impl Glob {
         }
     }
 
-    /// The glob that a literal spells. It is shown to have no fault where the call stands. Errors: out of memory.
+    /// Creates the glob that a literal spells. Requires a valid glob: the caller proves it. Errors: out of memory.
     #[tactic(auto, using(crate::proofs::Literals::glob_sound))]
     pub fn literal(alloc: Global, text: &str) -> Result<Glob, AllocError>
         requires { IsTrue (is_glob text.now) }
@@ -72,9 +72,9 @@ impl Glob {
         }
     }
 
-    /// The glob for what lies under a path: the path, a dot and the glob; the path alone where the glob is empty, and the glob
-    /// alone where the path is the top's. It has at most 2,049 bytes where `new` made the given glob, and else no limit of its
-    /// own. Errors: out of memory.
+    /// Creates the glob for what is below a path: the path, a dot and the glob. It is the path alone if the glob is empty, and
+    /// the glob alone if the path is the top's. It has at most 2,049 bytes if `new` created the given glob; otherwise it has no
+    /// limit of its own. Errors: out of memory.
     pub fn under(alloc: Global, path: &Path, glob: &Glob) -> Result<Glob, AllocError>
         ensures { IfOk result (λ under. under ≡ dotted (path_text path.now) glob.now) }
     {
@@ -83,7 +83,7 @@ impl Glob {
         })
     }
 
-    /// Whether the glob matches the whole text of the path. Takes no memory.
+    /// Returns whether the glob matches the whole text of the path. Does not allocate.
     pub fn matches(&self, path: &Path) -> bool
         ensures value { result ≡ matches self.now (path_text path.now) }
         ensures meaning { IsTrue result ↔ Matches self.now (path_text path.now) }
@@ -101,7 +101,7 @@ impl Glob {
         self.text.as_slice()
     }
 
-    /// An equal glob. Errors: out of memory.
+    /// Returns an equal glob. Errors: out of memory.
     pub fn copy(&self) -> Result<Glob, AllocError>
         ensures { IfOk result (λ glob. glob ≡ self.now) }
     {
@@ -111,7 +111,7 @@ impl Glob {
     }
 }
 
-/// Two globs are equal where their texts are, byte by byte: others may match the same paths.
+/// Compares the texts of the globs byte by byte. Globs with different texts may match the same paths.
 impl PartialEq for Glob {
     ghost eq = { pointwise nat_eq };
 
@@ -136,7 +136,7 @@ impl Hash for Glob {
     }
 }
 
-/// The text of the glob.
+/// Writes the text of the glob.
 impl fmt::Display for Glob {
     ghost use Rattle.std.specs.Prelude.{Some};
 
@@ -147,7 +147,7 @@ impl fmt::Display for Glob {
     }
 }
 
-// The first fault of a text as a glob.
+// Returns the first error of the text as a glob, or `None` if it is a glob.
 #[tactic(auto, unfolding(crate::specs::Globs::glob_fault))]
 fn glob_fault(text: &[u8]) -> Option<PathFault>
     ensures { result ≡ glob_fault text.now }
@@ -161,14 +161,14 @@ fn glob_fault(text: &[u8]) -> Option<PathFault>
     }
 }
 
-// Whether each of the bytes may stand in a glob.
+// Returns whether each of the bytes is allowed in a glob.
 fn are_glob_bytes(bytes: &[u8]) -> bool
     ensures { result ≡ list_all is_glob_byte bytes.now }
 {
     bytes.iter().all(|b| is_glob_byte(*b))
 }
 
-// Whether the byte may stand in a glob.
+// Returns whether the byte is allowed in a glob.
 fn is_glob_byte(b: u8) -> bool
     ensures { result ≡ is_glob_byte b }
 {

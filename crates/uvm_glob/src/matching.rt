@@ -1,12 +1,13 @@
-//! Matches globs with texts, over the parts of the glob between its stars. It takes no memory, and at most about as many
-//! steps as the two lengths multiplied, or added for a glob with one star.
+//! Matches globs against texts, part by part; the parts of a glob are between its stars (`*` and `+`). It does not allocate.
+//! Cost: O(n·m) for a glob of n bytes and a text of m bytes, and O(n + m) if the glob has one star.
 
 ghost use Rattle.std.specs.Prelude.{◌≡◌, ◌≤◌, ◌↔◌, ◌-◌, ◌++◌, IsTrue, IsFalse, length, drop, option_copied};
 ghost use Rattle.std.specs.List.{list_any};
 ghost use Rattle.uvm_glob.specs.Globs.{Matches, matches};
 ghost use Rattle.uvm_glob.specs.Parts.{is_star, begins_with_star, fits, fits_at_end, after_first_fit, after_least};
 
-// Whether the glob matches the text. The last part of the glob is compared first, for most texts that do not match end in another way.
+// Returns whether the glob matches the text. It compares the last part of the glob first, since most texts that do not match
+// differ there.
 pub(crate) fn matches_text(glob: &[u8], text: &[u8]) -> bool
     ensures value { result ≡ matches glob.now text.now }
     ensures meaning { IsTrue result ↔ Matches glob.now text.now }
@@ -14,7 +15,7 @@ pub(crate) fn matches_text(glob: &[u8], text: &[u8]) -> bool
     fits_at_end(last_part(glob), text) && matches_parts(glob, text)
 }
 
-// Whether the glob matches the text. The part of the glob before its first star stands at the front of the text.
+// Returns whether the glob matches the text. The part before the first star must fit at the beginning of the text.
 fn matches_parts(glob: &[u8], text: &[u8]) -> bool
     ensures { result ≡ matches glob.now text.now }
 {
@@ -22,8 +23,8 @@ fn matches_parts(glob: &[u8], text: &[u8]) -> bool
     fits(part, text) && matches_from_star(rest, &text[part.len()..])
 }
 
-// Whether a glob with no part before its first star matches the text. Of the parts behind the stars the last stands at
-// the end of the text, and each other where it fits first, since what it leaves is then the longest.
+// Returns whether a glob with no part before its first star matches the text. The last part must fit at the end of the text. Each
+// other part takes the first place where it fits, since that leaves the longest rest.
 fn matches_from_star(mut glob: &[u8], mut text: &[u8]) -> bool
     requires { IsTrue (begins_with_star glob.now) }
     ensures { result ≡ matches glob.now text.now }
@@ -45,14 +46,15 @@ fn matches_from_star(mut glob: &[u8], mut text: &[u8]) -> bool
     text.is_empty()
 }
 
-// Whether the byte stands for more than one.
+// Returns whether the byte is a star: `*` or `+`.
 fn is_star(byte: u8) -> bool
     ensures { result ≡ is_star byte }
 {
     byte == b'*' || byte == b'+'
 }
 
-// What is left of the text after the fewest bytes that the star takes, if it has them.
+// Returns the rest of the text after the fewest bytes that the star takes: one for `+`, none for `*`. Returns `None` if the text
+// is too short.
 fn after_least(star: u8, text: &[u8]) -> Option<&[u8]>
     ensures { option_copied result ≡ after_least star text.now }
 {
@@ -63,7 +65,7 @@ fn after_least(star: u8, text: &[u8]) -> Option<&[u8]>
     }
 }
 
-// The part of the glob behind its last star, which is the whole glob where it has no star.
+// Returns the part of the glob after its last star, or the whole glob if it has no star.
 fn last_part(glob: &[u8]) -> &[u8]
     ensures part { IsFalse (list_any is_star result.now) }
     ensures end { drop (length glob.now - length result.now) glob.now ≡ result.now }
@@ -76,7 +78,7 @@ fn last_part(glob: &[u8]) -> &[u8]
     glob
 }
 
-// The part of the glob before its first star, and the rest.
+// Returns the part of the glob before its first star, and the rest.
 #[tactic(auto, using(crate::proofs::Parts::star_here))]
 fn split_at_star(glob: &[u8]) -> (&[u8], &[u8])
     ensures whole { result.0.now ++ result.1.now ≡ glob.now }
@@ -91,7 +93,7 @@ fn split_at_star(glob: &[u8]) -> (&[u8], &[u8])
     glob.split_at(glob.len())
 }
 
-// Whether the text begins with the part, in which `?` stands for any byte.
+// Returns whether the text begins with the part, in which `?` stands for any byte.
 #[tactic(auto, using(crate::proofs::Parts::fits_short, crate::proofs::Parts::fits_from))]
 fn fits(part: &[u8], text: &[u8]) -> bool
     ensures value { result ≡ fits part.now text.now }
@@ -108,14 +110,14 @@ fn fits(part: &[u8], text: &[u8]) -> bool
     true
 }
 
-// Whether the text ends with the part.
+// Returns whether the text ends with the part, in which `?` stands for any byte.
 fn fits_at_end(part: &[u8], text: &[u8]) -> bool
     ensures { result ≡ fits_at_end part.now text.now }
 {
     part.len() <= text.len() && fits(part, &text[text.len() - part.len()..])
 }
 
-// What is left of the text after the first place where the part fits.
+// Returns the rest of the text after the first place where the part fits, or `None` if it fits nowhere.
 #[tactic(auto, using(crate::proofs::Parts::first_place))]
 fn after_first_fit<'a>(part: &[u8], text: &'a [u8]) -> Option<&'a [u8]>
     ensures { option_copied result ≡ after_first_fit part.now text.now }

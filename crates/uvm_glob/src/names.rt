@@ -20,12 +20,12 @@ use std::fmt;
 use std::hash::{Hash, Hasher};
 use std::marker::Model;
 
-/// A name: 1 to `MAX_LEN` bytes of 0x21 to 0x7E, none of them `.`, `*`, `+`, `?` or `/`. It is held in place, and contracts
-/// see its bytes. Names are ordered byte by byte.
+/// A name: 1 to `MAX_LEN` bytes from 0x21 to 0x7E, except `.`, `*`, `+`, `?` and `/`. It is stored inline. Contracts see its
+/// bytes. Names are ordered byte by byte.
 #[derive(Clone, Copy)]
 pub struct Name {
     len: u8,
-    // The bytes, and zeros after them.
+    // The bytes, followed by zeros.
     bytes: [u8; Name::MAX_LEN],
 }
 
@@ -51,10 +51,11 @@ impl Model for Name {
 }
 
 impl Name {
-    /// The most bytes of a name.
+    /// The maximum number of bytes of a name.
     pub const MAX_LEN: usize = 64;
 
-    /// The name with these bytes: the first of `Empty`, `TooLong` and `BadByte` that holds, if one does.
+    /// Creates the name with these bytes. Errors: `Empty` if there is no byte; `TooLong` if there are more than `MAX_LEN`;
+    /// `BadByte` if a byte is not allowed in a name.
     pub fn new(bytes: &[u8]) -> Result<Name, PathFault>
         ensures { result ≡ unless (name_fault bytes.now) bytes.now }
     {
@@ -64,7 +65,7 @@ impl Name {
         }
     }
 
-    // The name of bytes that have no fault. It looks at none of them.
+    // Creates the name with these bytes, which must be valid; does not check them.
     pub(crate) fn of_sound(bytes: &[u8]) -> Name
         requires sound { name_fault bytes.now ≡ None }
         requires short { length bytes.now ≤ most_name_bytes }
@@ -76,7 +77,7 @@ impl Name {
         }
     }
 
-    /// The name that a literal spells. It is shown to have no fault where the call stands, and no fault comes when it runs.
+    /// Creates the name that a literal spells. Requires a valid name: the caller proves it, so the call cannot fail at run time.
     #[tactic(auto, using(crate::proofs::Literals::name_sound))]
     pub fn literal(text: &str) -> Name
         requires { IsTrue (is_name text.now) }
@@ -147,7 +148,7 @@ impl Hash for Name {
     }
 }
 
-/// The bytes of the name.
+/// Writes the bytes of the name.
 impl fmt::Display for Name {
     ghost use Rattle.std.specs.Prelude.{Some};
 
@@ -159,7 +160,7 @@ impl fmt::Display for Name {
     }
 }
 
-// The bytes, and zeros after them.
+// Returns the bytes, followed by zeros.
 pub(crate) fn padded<const N: usize>(bytes: &[u8]) -> [u8; N]
     requires { length bytes.now ≤ N }
     ensures { result ≡ bytes.now ++ replicate (N - length bytes.now) 0 }
@@ -169,7 +170,7 @@ pub(crate) fn padded<const N: usize>(bytes: &[u8]) -> [u8; N]
     held
 }
 
-// The first fault of the bytes as a name.
+// Returns the first error of the bytes as a name, or `None` if they are a name.
 #[tactic(auto, unfolding(crate::specs::Names::name_fault))]
 fn name_fault(bytes: &[u8]) -> Option<PathFault>
     ensures fault { result ≡ name_fault bytes.now }
@@ -186,14 +187,14 @@ fn name_fault(bytes: &[u8]) -> Option<PathFault>
     }
 }
 
-// Whether each of the bytes may stand in a name.
+// Returns whether each of the bytes is allowed in a name.
 pub(crate) fn are_name_bytes(bytes: &[u8]) -> bool
     ensures { result ≡ list_all is_name_byte bytes.now }
 {
     bytes.iter().all(|b| is_name_byte(*b))
 }
 
-// Whether the byte may stand in a name.
+// Returns whether the byte is allowed in a name.
 pub(crate) fn is_name_byte(b: u8) -> bool
     ensures { result ≡ is_name_byte b }
 {

@@ -1,4 +1,4 @@
-//! The two orders of paths, and how texts stand in them. What the texts have where they first differ decides both.
+//! The two orders of paths, computed from the texts of the paths. The first place where two texts differ decides their order.
 
 ghost use Rattle.std.specs.Prelude.{◌≡◌};
 ghost use Rattle.uvm_glob.specs.Differences.{first_difference, rank};
@@ -7,17 +7,18 @@ ghost use Rattle.uvm_glob.specs.Paths.{names_of};
 
 use std::cmp::Ordering;
 
-/// The way in which a tree of paths is gone through, and so an order of paths. In both they go name by name in byte order.
+/// The direction in which a tree of paths is traversed, and so an order of paths. Both orders compare paths name by name, and
+/// names byte by byte.
 #[derive(Clone, Copy, PartialEq, Eq)]
 pub enum Direction {
-    /// Parents before their children, and so the top first: the order of a top-down phase (IEEE 1800.2-2020, Clause 9), and
-    /// that of `Ord`.
+    /// Parents before their children, and so the top first: the order of a top-down phase (IEEE 1800.2-2020, Clause 9), and of
+    /// `Ord`.
     Down,
     /// Children before their parents, and so the top last: the order of a bottom-up phase.
     Up,
 }
 
-// How the paths with these texts stand in Down.
+// Compares the paths with these texts in the order `Down`.
 #[tactic(auto, using(crate::proofs::TextOrders::orders))]
 pub(crate) fn down_cmp(mine: &[u8], other: &[u8]) -> Ordering
     ensures { result ≡ down_cmp (names_of mine.now) (names_of other.now) }
@@ -26,7 +27,7 @@ pub(crate) fn down_cmp(mine: &[u8], other: &[u8]) -> Ordering
     down_rank(mine).cmp(&down_rank(other))
 }
 
-// How the paths with these texts stand in Up.
+// Compares the paths with these texts in the order `Up`.
 #[tactic(auto, using(crate::proofs::TextOrders::orders))]
 pub(crate) fn up_cmp(mine: &[u8], other: &[u8]) -> Ordering
     ensures { result ≡ up_cmp (names_of mine.now) (names_of other.now) }
@@ -39,7 +40,7 @@ pub(crate) fn up_cmp(mine: &[u8], other: &[u8]) -> Ordering
     up_rank(mine).cmp(&up_rank(other))
 }
 
-// What each text has where they first differ: a byte, or its end.
+// Returns what each text has at the first place where they differ: a byte, or `None` at its end.
 fn first_difference(mut mine: &[u8], mut other: &[u8]) -> (Option<u8>, Option<u8>)
     ensures { result ≡ first_difference mine.now other.now }
 {
@@ -53,7 +54,8 @@ fn first_difference(mut mine: &[u8], mut other: &[u8]) -> (Option<u8>, Option<u8
     (mine.first().copied(), other.first().copied())
 }
 
-// A path comes before the paths that go on from it: its text ends where theirs have a dot.
+// Returns the rank in `Down` of what a text has at the first difference. The end of a text precedes a dot, and so a path precedes
+// its descendants.
 fn down_rank(byte: Option<u8>) -> u16
     ensures { result ≡ rank 0 1 byte }
 {
@@ -64,7 +66,8 @@ fn down_rank(byte: Option<u8>) -> u16
     }
 }
 
-// A path comes after the paths that go on from it.
+// Returns the rank in `Up` of what a text has at the first difference. The end of a text follows a dot, and so a path follows its
+// descendants.
 fn up_rank(byte: Option<u8>) -> u16
     ensures { result ≡ rank 1 0 byte }
 {

@@ -1,4 +1,4 @@
-//! Paths of names.
+//! Paths: the lists of names that lead from the top of a testbench to its components.
 
 ghost use Rattle.std.specs.Prelude.{count_by, ◌≡◌, ◌+◌, ◌≤◌, [], ◌∷◌, ◌++◌, length, None, IfOk, IfErr, OnOk, OnErr, nat_lt, nat_eq, ◌==◌, refl, true, IsTrue};
 ghost use Rattle.std.specs.Cmp.{partial_equiv_from_equiv, po};
@@ -22,11 +22,11 @@ use std::cmp::Ordering;
 use std::fmt;
 use std::marker::Model;
 
-/// A path: the names from below the top down to a component. It has at most `MAX_NAMES` names, and its text, the names
-/// with a dot between each two, at most `MAX_LEN` bytes. The top's own path has no name. Contracts see the list of the names.
+/// A path: the names from below the top down to a component. It has at most `MAX_NAMES` names. Its text is the names with a dot
+/// between each two, at most `MAX_LEN` bytes. The path of the top has no name. Contracts see the list of the names.
 ///
-/// Paths are ordered by `Direction::Down`: name by name in byte order, and a parent before its children. `cmp_in` has both
-/// directions.
+/// Paths are ordered by `Direction::Down`: name by name in byte order, and a parent before its children. `cmp_in` compares in
+/// either direction.
 #[derive(Drop)]
 pub struct Path {
     pub(crate) text: Vec<u8>,
@@ -44,13 +44,13 @@ impl Model for Path {
 }
 
 impl Path {
-    /// The most names of a path.
+    /// The maximum number of names of a path.
     pub const MAX_NAMES: usize = 32;
 
-    /// The most bytes of a path's text.
+    /// The maximum number of bytes of the text of a path.
     pub const MAX_LEN: usize = 1024;
 
-    /// The path of the top.
+    /// Creates the path of the top.
     #[tactic(auto, unfolding(crate::specs::Paths::path_fault))]
     pub fn top(alloc: Global) -> Path
         ensures { result ≡ [] }
@@ -60,7 +60,9 @@ impl Path {
         }
     }
 
-    /// The path with this text, which is not the top's. The fault is the first of `PathFault` that holds.
+    /// Creates the path with this text, which cannot be the path of the top. Errors: `Empty` if a name or the whole text is
+    /// empty; `TooLong` if a name has more than `Name::MAX_LEN` bytes or the text more than `MAX_LEN`; `BadByte` if a byte is not
+    /// allowed in a name; `TooDeep` if there are more than `MAX_NAMES` names; out of memory (`Memory`).
     pub fn parse(alloc: Global, text: &[u8]) -> Result<Path, PathFault>
         ensures ok { IfOk result (λ path. (path_fault (between_dots text.now) ≡ None) × (path ≡ between_dots text.now)) }
         ensures err { IfErr result (λ fault. path_fault (between_dots text.now) ≡ refusal fault) }
@@ -73,8 +75,8 @@ impl Path {
         }
     }
 
-    /// The path that a literal spells, the top's where it is empty. It is shown to have no fault where the call stands; the error
-    /// is out of memory.
+    /// Creates the path that a literal spells; an empty literal is the path of the top. Requires a valid path: the caller proves
+    /// it. Errors: out of memory.
     #[tactic(auto, using(crate::proofs::Literals::path_sound))]
     pub fn literal(alloc: Global, text: &str) -> Result<Path, AllocError>
         requires { IsTrue (is_path text.now) }
@@ -91,7 +93,8 @@ impl Path {
         }
     }
 
-    /// The path of a child (`TooLong`, `TooDeep`, `Memory`).
+    /// Returns the path of the child with this name. Errors: `TooLong` if its text would have more than `MAX_LEN` bytes;
+    /// `TooDeep` if it would have more than `MAX_NAMES` names; out of memory (`Memory`).
     pub fn child(&self, name: &Name) -> Result<Path, PathFault>
         ensures ok { IfOk result (λ path. (path_fault (self.now ++ name.now ∷ []) ≡ None) × (path ≡ self.now ++ name.now ∷ [])) }
         ensures err { IfErr result (λ fault. path_fault (self.now ++ name.now ∷ []) ≡ refusal fault) }
@@ -99,8 +102,9 @@ impl Path {
         self.extended(name.as_bytes())
     }
 
-    /// Goes on with a name, where it is known how many names there are (`TooLong`, `TooDeep`, `Memory`). So none is counted, and the
-    /// time does not grow with the path, but where it finds new room. Where there is a fault the path stays as it was.
+    /// Appends a name to a path that has `depth` names. The names are not counted, so the time does not grow with the length of
+    /// the path unless the text is reallocated. Errors: `TooLong`, then `TooDeep`, each if `child` would return it; out of memory
+    /// (`Memory`). An error changes nothing.
     pub fn push_at(&mut self, depth: usize, name: &Name) -> Result<(), PathFault>
         requires { depth ≡ length self.old }
         ensures ok { OnOk result (self.new ≡ self.old ++ name.now ∷ []) }
@@ -111,14 +115,16 @@ impl Path {
         self.extend(depth, name.as_bytes())
     }
 
-    /// Why there is no path of a child, if there is none (`TooLong`, `TooDeep`). Takes no memory.
+    /// Returns why the path of the child with this name does not exist: `TooLong`, then `TooDeep`; `None` if it exists. Does not
+    /// allocate.
     pub fn child_fault(&self, name: &Name) -> Option<PathFault>
         ensures { result ≡ path_fault (self.now ++ name.now ∷ []) }
     {
         size_fault(self.text.as_slice(), name.as_bytes())
     }
 
-    /// The path that goes on with another from here (`TooLong`, `TooDeep`, `Memory`).
+    /// Returns the path with the names of this path followed by those of `other`. Errors: `TooLong` if its text would have more
+    /// than `MAX_LEN` bytes; `TooDeep` if it would have more than `MAX_NAMES` names; out of memory (`Memory`).
     pub fn join(&self, other: &Path) -> Result<Path, PathFault>
         ensures ok { IfOk result (λ path. (path_fault (self.now ++ other.now) ≡ None) × (path ≡ self.now ++ other.now)) }
         ensures err { IfErr result (λ fault. path_fault (self.now ++ other.now) ≡ refusal fault) }
@@ -126,7 +132,7 @@ impl Path {
         self.extended(other.text.as_slice())
     }
 
-    /// The number of names, 0 for the top.
+    /// Returns the number of names, 0 for the top and at most `MAX_NAMES`.
     pub fn depth(&self) -> usize
         ensures count { result ≡ length self.now }
         ensures limit { result ≤ most_names }
@@ -134,7 +140,7 @@ impl Path {
         count_names(self.text.as_slice())
     }
 
-    /// Appends the text of the path. Where memory is refused nothing is appended.
+    /// Appends the text of the path to `out`. Errors: out of memory. An error changes nothing.
     pub fn write(&self, out: &mut Vec<u8>) -> Result<(), AllocError>
         ensures ok { OnOk result (out.new.items ≡ out.old.items ++ path_text self.now) }
         ensures err { OnErr result (out.new.items ≡ out.old.items) }
@@ -142,7 +148,7 @@ impl Path {
         out.extend_from_slice(self.text())
     }
 
-    /// How the path stands to another in the order of a direction. Takes no memory.
+    /// Compares the path with another in the order of `direction`. Does not allocate.
     pub fn cmp_in(&self, direction: Direction, other: &Path) -> Ordering
         ensures { result ≡ order_of direction self.now other.now }
     {
@@ -152,14 +158,14 @@ impl Path {
         }
     }
 
-    /// How the path stands to another in Up, in which children come before their parent. Takes no memory.
+    /// Compares the path with another in the order `Up`, in which children precede their parent. Does not allocate.
     pub fn up_cmp(&self, other: &Path) -> Ordering
         ensures { result ≡ up_cmp self.now other.now }
     {
         up_cmp(self.text.as_slice(), other.text.as_slice())
     }
 
-    /// An equal path. Errors: out of memory.
+    /// Returns an equal path. Errors: out of memory.
     pub fn copy(&self) -> Result<Path, AllocError>
         ensures { IfOk result (λ path. path ≡ self.now) }
     {
@@ -168,7 +174,8 @@ impl Path {
         })
     }
 
-    /// Returns the bytes of the text of the path: its names with dots between them, and none for the top's. Takes no memory.
+    /// Returns the bytes of the text of the path: its names with a dot between each two, and no byte for the top. Does not
+    /// allocate.
     #[tactic(auto, using(crate::proofs::Bytes::bytes_printed))]
     pub fn as_bytes(&self) -> &[u8]
         ensures text { result.now ≡ path_text self.now }
@@ -179,7 +186,7 @@ impl Path {
         self.text()
     }
 
-    // The text of the path.
+    // Returns the text of the path.
     pub(crate) fn text(&self) -> &[u8]
         ensures text { result.now ≡ path_text self.now }
         ensures names { names_of result.now ≡ self.now }
@@ -189,7 +196,8 @@ impl Path {
         self.text.as_slice()
     }
 
-    // Goes on with the names of a text, where the path has so many. Where there is a fault the path stays as it was.
+    // Appends the names of the text `back` to a path that has `depth` names. Errors: `TooLong`; `TooDeep`; out of memory
+    // (`Memory`). An error changes nothing.
     fn extend(&mut self, depth: usize, back: &[u8]) -> Result<(), PathFault>
         requires depth { depth ≡ length self.old }
         requires back { path_fault (names_of back.now) ≡ None }
@@ -205,7 +213,7 @@ impl Path {
         Ok(())
     }
 
-    // The path that goes on with the names of a text.
+    // Returns the path followed by the names of the text `back`. Errors: `TooLong`; `TooDeep`; out of memory (`Memory`).
     fn extended(&self, back: &[u8]) -> Result<Path, PathFault>
         requires { path_fault (names_of back.now) ≡ None }
         ensures ok { IfOk result (λ path. (path_fault (self.now ++ names_of back.now) ≡ None) × (path ≡ self.now ++ names_of back.now)) }
@@ -221,7 +229,7 @@ impl Path {
     }
 }
 
-/// The path's text, as `write` gives it: that of the top is empty.
+/// Writes the text of the path as `write` does; the text of the top is empty.
 impl fmt::Display for Path {
     ghost use Rattle.std.specs.Prelude.{Some};
 
@@ -271,7 +279,7 @@ impl Ord for Path {
     }
 }
 
-// The two texts with a dot between them, which an empty one does without.
+// Returns the two texts with a dot between them, or without the dot if one of them is empty. Errors: out of memory.
 pub(crate) fn dotted(alloc: Global, front: &[u8], back: &[u8]) -> Result<Vec<u8>, AllocError>
     ensures { IfOk result (λ text. text.items ≡ dotted front.now back.now) }
 {
@@ -283,7 +291,8 @@ pub(crate) fn dotted(alloc: Global, front: &[u8], back: &[u8]) -> Result<Vec<u8>
     Ok(text)
 }
 
-// Goes on with a text behind a dot, which an empty one does without. Where memory is refused the text stays as it was.
+// Appends a dot and the text `back`; omits the dot if one of the two texts is empty. Errors: out of memory. An error changes
+// nothing.
 fn go_on(text: &mut Vec<u8>, back: &[u8]) -> Result<(), AllocError>
     ensures ok { OnOk result (text.new.items ≡ dotted text.old.items back.now) }
     ensures err { OnErr result (text.new.items ≡ text.old.items) }
@@ -299,7 +308,7 @@ fn go_on(text: &mut Vec<u8>, back: &[u8]) -> Result<(), AllocError>
     extended
 }
 
-// What keeps the two texts, of a path each, from being a path together.
+// Returns the size error of the path that the texts of two paths make together: `TooLong`, then `TooDeep`; `None` if it has none.
 pub(crate) fn size_fault(front: &[u8], back: &[u8]) -> Option<PathFault>
     requires front_short { length front.now ≤ most_text_bytes }
     requires back_short { length back.now ≤ most_text_bytes }
@@ -308,7 +317,7 @@ pub(crate) fn size_fault(front: &[u8], back: &[u8]) -> Option<PathFault>
     size_fault_at(front, count_names(front), back)
 }
 
-// What keeps them from that, where it is known how many names the first has.
+// Returns what `size_fault` returns, for a first path that has `depth` names; these are not counted.
 fn size_fault_at(front: &[u8], depth: usize, back: &[u8]) -> Option<PathFault>
     requires depth { depth ≡ length (names_of front.now) }
     requires few { depth ≤ most_text_bytes + 1 }
@@ -326,7 +335,7 @@ fn size_fault_at(front: &[u8], depth: usize, back: &[u8]) -> Option<PathFault>
     }
 }
 
-// The first fault of a text as that of a path.
+// Returns the first error of a text as that of a path, or `None` if it is valid. The empty text is not valid here.
 #[tactic(auto, using(crate::proofs::PathTexts::texts), unfolding(crate::specs::Paths::path_fault))]
 fn text_fault(text: &[u8]) -> Option<PathFault>
     ensures { result ≡ path_fault (between_dots text.now) }
@@ -363,7 +372,7 @@ fn have_name_bytes(text: &[u8]) -> bool
     text.split(|b| *b == b'.').all(are_name_bytes)
 }
 
-// How many names the text stands for: none where it is empty.
+// Returns the number of names in the text of a path, 0 if it is empty.
 fn count_names(text: &[u8]) -> usize
     ensures count { result ≡ length (names_of text.now) }
     ensures limit { result ≤ length text.now + 1 }

@@ -1,4 +1,4 @@
-//! Room for the path of a child, made before the child's name is known.
+//! The path of a child for which memory is allocated before the name of the child is known.
 
 ghost use Rattle.std.specs.Prelude.{◌≡◌, ◌++◌, ◌∷◌, [], ◌+◌, ◌≤◌, ◌<◌, length, None, Some, IfOk, IfErr, vec_capacity, vec_len};
 ghost use Rattle.uvm_glob.specs.Limits.{most_name_bytes, most_text_bytes};
@@ -10,7 +10,7 @@ use crate::paths::{Path, size_fault};
 use std::alloc::{AllocError, Global};
 use std::marker::Model;
 
-/// The path of a parent, with room for the name of a child. Contracts see the list of the parent's names.
+/// The path of a parent, with reserved capacity for the name of a child. Contracts see the list of the parent's names.
 #[derive(Drop)]
 pub struct ChildRoom {
     text: Vec<u8>,
@@ -29,7 +29,7 @@ impl Model for ChildRoom {
 }
 
 impl ChildRoom {
-    /// Room for a child of a path. Errors: out of memory.
+    /// Creates a copy of the parent's path with capacity for a dot and a name of `Name::MAX_LEN` bytes. Errors: out of memory.
     pub fn new(parent: &Path) -> Result<ChildRoom, AllocError>
         ensures { IfOk result (λ room. room ≡ parent.now) }
     {
@@ -39,7 +39,8 @@ impl ChildRoom {
         })
     }
 
-    /// The path of the child (`TooLong`, `TooDeep`). Takes no memory.
+    /// Returns the path of the child with this name. Does not allocate. Errors: `TooLong` if its text would have more than
+    /// `Path::MAX_LEN` bytes; `TooDeep` if it would have more than `Path::MAX_NAMES` names.
     pub fn child(self, name: &Name) -> Result<Path, PathFault>
         ensures ok { IfOk result (λ path. (path_fault (self ++ name.now ∷ []) ≡ None) × (path ≡ self ++ name.now ∷ [])) }
         ensures err { IfErr result (λ fault. path_fault (self ++ name.now ∷ []) ≡ Some fault) }
@@ -55,7 +56,7 @@ impl ChildRoom {
     }
 }
 
-// The text, in a vector with room for a dot and a name.
+// Returns the text in a vector with capacity for a dot and a name of `Name::MAX_LEN` bytes. Errors: out of memory.
 fn with_room(alloc: Global, text: &[u8]) -> Result<Vec<u8>, AllocError>
     requires { length text.now ≤ most_text_bytes }
     ensures items { IfOk result (λ held. held.items ≡ text.now) }
@@ -66,7 +67,7 @@ fn with_room(alloc: Global, text: &[u8]) -> Result<Vec<u8>, AllocError>
     Ok(held)
 }
 
-// The text with a dot and the name, or the name alone after the empty text.
+// Returns the text with a dot and the name appended; omits the dot if the text or the name is empty.
 fn extended(text: Vec<u8>, name: &[u8]) -> Vec<u8>
     requires room { length text.items + 1 + most_name_bytes ≤ vec_capacity text }
     requires name { length name.now ≤ most_name_bytes }

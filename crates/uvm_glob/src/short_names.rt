@@ -1,4 +1,4 @@
-//! Names of few bytes, held in little room.
+//! Short names, stored in few bytes.
 
 ghost use Rattle.std.specs.Prelude.{◌≡◌, length, IfSome, is_some, nat_le};
 ghost use Rattle.uvm_glob.specs.Limits.{most_short_bytes};
@@ -6,11 +6,11 @@ ghost use Rattle.uvm_glob.specs.Limits.{most_short_bytes};
 use crate::names::{Name, padded};
 use std::marker::Model;
 
-/// A name of at most `MAX_LEN` bytes, held in as many and one. Contracts see its bytes.
+/// A name of at most `MAX_LEN` bytes, stored in one byte more than that. Contracts see its bytes.
 #[derive(Drop)]
 pub struct ShortName {
     len: u8,
-    // The bytes, and others after them.
+    // The bytes of the name, followed by unused bytes.
     bytes: [u8; ShortName::MAX_LEN],
 }
 
@@ -27,10 +27,10 @@ impl Model for ShortName {
 }
 
 impl ShortName {
-    /// The most bytes of a name that is held so.
+    /// The maximum number of bytes of a short name.
     pub const MAX_LEN: usize = 13;
 
-    /// The name, if it has few enough bytes.
+    /// Creates the short form of a name. Returns `None` if the name has more than `MAX_LEN` bytes.
     pub fn new(name: &Name) -> Option<ShortName>
         ensures some { is_some result ≡ nat_le (length name.now) most_short_bytes }
         ensures name { IfSome result (λ short. short ≡ name.now) }
@@ -45,7 +45,7 @@ impl ShortName {
         })
     }
 
-    /// The same name. It takes no memory.
+    /// Returns an equal short name. Does not allocate.
     pub fn copy(&self) -> ShortName
         ensures { result ≡ self.now }
     {
@@ -55,7 +55,7 @@ impl ShortName {
         }
     }
 
-    /// The name.
+    /// Returns the name.
     pub fn name(&self) -> Name
         ensures { result ≡ self.now }
     {

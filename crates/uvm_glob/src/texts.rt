@@ -1,4 +1,4 @@
-//! Bytes as text.
+//! The conversion of bytes to text.
 
 ghost use Rattle.std.specs.Prelude.{◌≡◌, true};
 ghost use Rattle.std.specs.List.{list_all};
@@ -6,7 +6,7 @@ ghost use Rattle.uvm_glob.specs.Globs.{is_glob_byte};
 
 use std::str::from_utf8;
 
-// The bytes of a name, a path or a glob as text.
+// Returns the bytes of a name, path or glob as text.
 #[tactic(auto, using(crate::proofs::Bytes::bytes_as_text))]
 pub(crate) fn as_text(bytes: &[u8]) -> &str
     requires { list_all is_glob_byte bytes.now ≡ true }

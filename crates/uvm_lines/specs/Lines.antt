@@ -1,4 +1,4 @@
--- The line of an entry.
+-- The line of an entry of a log, and the texts in it.
 use Rattle.std.specs.Prelude.{ℕ, ℤ, pos, Option, Some, None, is_some, Bool, true, false, List, [], ◌∷◌, ◌++◌, length, codes, slice_index_or, if◌then◌else◌}
 use Rattle.std.specs.List.{join_with_byte}
 use Rattle.std.specs.Fmt.{decimal, signed_decimal}
@@ -36,35 +36,35 @@ use Rattle.uvm_object.specs.declared.entries.Entry.TheVariants.{Begin, End, Time
 use Rattle.uvm_object.specs.Fatals.{id_of}
 use Rattle.uvm_object.specs.Sources.{sequence_text, shown_path}
 
--- somebody in the lines of entries, where a sequence has its number behind it
+-- the text of a component or sequence in the lines of entries: its path, followed for a sequence by `#` and its number
 abbrev pub who_text : List Node → List Start → Who → List ℕ
 who_text nodes started (who.Node node) = shown_path (path_at nodes node)
 who_text nodes started (who.Sequence home id) = sequence_text nodes started id home ++ 35 ∷ decimal id
 
--- a value that may be absent
+-- the text of a value in decimal, or `none`
 abbrev pub value_text : Option ℤ → List ℕ
 value_text None = codes "none"
 value_text (Some value) = signed_decimal value
 
--- `yes` or `no`
+-- the text `yes` or `no`
 abbrev pub answer_text : Bool → List ℕ
 answer_text true = codes "yes"
 answer_text false = codes "no"
 
--- one of the four words of an item, in decimal
+-- the text of one of the four values of an item, in decimal
 abbrev pub word_text : Item → ℕ → List ℕ
 word_text item place = signed_decimal (slice_index_or item.0 place (pos 0))
 
--- an item: its four words in brackets, with commas between them, as `[1,0,10,0]`
+-- the text of an item: its four values in brackets, with commas between them, as `[1,0,10,0]`
 abbrev pub item_text : Item → List ℕ
 item_text item = 91 ∷ word_text item 0 ++ 44 ∷ word_text item 1 ++ 44 ∷ word_text item 2 ++ 44 ∷ word_text item 3 ++ 93 ∷ []
 
--- an item that may be absent
+-- the text of an item, or `none`
 abbrev pub some_item_text : Option Item → List ℕ
 some_item_text None = codes "none"
 some_item_text (Some item) = item_text item
 
--- a call, as a `heard` line shows it
+-- the text of a call, as a `heard` line shows it
 abbrev pub call_text : Call → List ℕ
 call_text (call.Phase phase) = phase_name phase
 call_text (call.Config field value) = codes "config " ++ field ++ 32 ∷ value_text value
@@ -84,14 +84,14 @@ call_text (call.ItemDone response) = codes "item_done " ++ some_item_text respon
 call_text call.Held = codes "held"
 call_text (call.Finished name id) = codes "finished " ++ name ++ 32 ∷ decimal id
 
--- what a port or an export passes on
+-- the text of the kind of a port or an export
 abbrev pub kind_text : PortKind → List ℕ
 kind_text Put = codes "put"
 kind_text Get = codes "get"
 kind_text Analysis = codes "analysis"
 kind_text Seq = codes "seq"
 
--- the arbitration mode of a sequencer
+-- the text of the arbitration mode of a sequencer
 abbrev pub mode_text : Mode → List ℕ
 mode_text mode.Fifo = codes "FIFO"
 mode_text mode.Weighted = codes "WEIGHTED"
@@ -99,13 +99,13 @@ mode_text mode.Random = codes "RANDOM"
 mode_text mode.StrictFifo = codes "STRICT_FIFO"
 mode_text mode.StrictRandom = codes "STRICT_RANDOM"
 
--- how a driver asks for an item
+-- the text of how a driver asks for an item
 abbrev pub how_text : How → List ℕ
 how_text how.Next = codes "next"
 how_text how.Try = codes "try"
 how_text how.Get = codes "get"
 
--- what a component adds: a sequencer, a FIFO, a port, an export or an imp
+-- the text of what a component adds: a sequencer, a FIFO, a port, an export or an imp
 abbrev pub what_text : What → List ℕ
 what_text (what.Sequencer mode) = codes "sequencer " ++ mode_text mode
 what_text (what.Fifo size) = codes "fifo " ++ decimal size
@@ -113,40 +113,40 @@ what_text (what.Port kind) = codes "port " ++ kind_text kind
 what_text (what.Export kind) = codes "export " ++ kind_text kind
 what_text what.Imp = codes "imp"
 
--- the word ` replace` of a type override that replaces an earlier one, otherwise nothing
+-- the text ` replace` for a type override that replaces an earlier one, otherwise the empty text
 abbrev pub replace_text : Bool → List ℕ
 replace_text true = codes " replace"
 replace_text false = []
 
--- the reports that a setting is for
+-- the text of the reports for which a verbosity level or report actions are set
 abbrev pub which_text : Which → List ℕ
 which_text which.All = codes "all"
 which_text (which.Severity severity) = severity_name severity
 which_text (which.Id id) = codes "id " ++ id
 which_text (which.Both severity id) = severity_name severity ++ 32 ∷ id
 
--- a list of this word if the condition holds, otherwise an empty list
+-- a list of only this text if the condition holds, otherwise an empty list
 abbrev pub word_if : Bool → List ℕ → List (List ℕ)
 word_if true word = word ∷ []
 word_if false word = []
 
--- a set of report actions: its words with commas between them, or `none`
+-- the text of a set of report actions: their names with commas between them, or `none` if it is empty
 abbrev pub actions_text : Actions → List ℕ
 actions_text actions =
     if is_empty actions then codes "none"
     else join_with_byte 44 (word_if actions.display (codes "display") ++ word_if actions.count (codes "count") ++ word_if actions.exit (codes "exit"))
 
--- an id that may be absent
+-- the text of an id, or `none`
 abbrev pub id_text : Option (List ℕ) → List ℕ
 id_text None = codes "none"
 id_text (Some id) = id
 
--- a priority that may not be given
+-- the text of a priority in decimal, or `none`
 abbrev pub priority_text : Option ℕ → List ℕ
 priority_text None = codes "none"
 priority_text (Some priority) = decimal priority
 
--- an action, as a `did` line shows it before its outcome
+-- the text of an action, as a `did` line shows it before its outcome
 abbrev pub act_text : Act → List ℕ
 act_text (act.Create type_name name) = codes "create " ++ type_name ++ 32 ∷ name
 act_text (act.Add name what) = codes "add " ++ name ++ 32 ∷ what_text what
@@ -179,7 +179,7 @@ act_text (act.DropObjection count) = codes "drop " ++ decimal count
 act_text (act.SetDrain ticks) = codes "set_drain " ++ decimal ticks
 act_text (act.Wait ticks tag) = codes "wait " ++ decimal ticks ++ 32 ∷ decimal tag
 
--- the outcome of an action, as a `did` line shows it
+-- the text of the outcome of an action, as a `did` line shows it
 abbrev pub outcome_text : Outcome → List ℕ
 outcome_text outcome.Done = codes "done"
 outcome_text (outcome.Made type_name) = codes "made " ++ type_name
@@ -191,13 +191,13 @@ outcome_text (outcome.Waits waits) = answer_text waits
 outcome_text outcome.Finished = codes "finished"
 outcome_text (outcome.Refused fatal) = codes "refused " ++ id_of fatal
 
--- what passes at a FIFO
+-- the text of the kind of a FIFO transfer
 abbrev pub move_text : MoveKind → List ℕ
 move_text move.Put = codes "put"
 move_text move.Take = codes "take"
 move_text move.Peek = codes "peek"
 
--- why a run ended, as the `over` line shows it
+-- the text of the reason why a run ended, as the `over` line shows it
 abbrev pub reason_text : Reason → List ℕ
 reason_text Finished = codes "finished"
 reason_text Exit = codes "exit"
@@ -205,12 +205,12 @@ reason_text NoTest = codes "no_test"
 reason_text Stall = codes "stall"
 reason_text Timeout = codes "timeout"
 
--- the word that decided a grant, where one was drawn
+-- ` word ` and the random number that decided a grant; the empty text if none was consumed
 abbrev pub drawn_text : Option ℕ → List ℕ
 drawn_text None = []
 drawn_text (Some word) = codes " word " ++ decimal word
 
--- the line of an entry without its newline, by the nodes of the tree and the sequences that were started
+-- the line of an entry without its newline, given the nodes of the tree and the started sequences
 abbrev pub entry_text : List Node → List Start → Entry → List ℕ
 entry_text nodes started (Begin phase) = codes "begin " ++ phase_name phase
 entry_text nodes started (End phase) = codes "end " ++ phase_name phase
@@ -224,6 +224,6 @@ entry_text nodes started (Drained node origin) = codes "drained " ++ shown_path 
 entry_text nodes started (Note fatal node) = codes "note " ++ id_of fatal ++ 32 ∷ shown_path (path_at nodes node)
 entry_text nodes started (Over reason) = codes "over " ++ reason_text reason
 
--- the line of an entry, by the nodes of the tree and the sequences that were started
+-- the line of an entry with its newline, given the nodes of the tree and the started sequences
 abbrev pub entry_line : List Node → List Start → Entry → List ℕ
 entry_line nodes started entry = entry_text nodes started entry ++ 10 ∷ []

@@ -1,4 +1,4 @@
-//! The lines of acts.
+//! The texts of actions.
 
 ghost use Rattle.std.specs.Prelude.{◌≡◌, ◌++◌, ◌∷◌, IfOk, OnOk};
 ghost use Rattle.std.specs.Fmt.{decimal};
@@ -14,7 +14,7 @@ use uvm_glob::{Glob, Name, Path};
 use uvm_object::{Act, What};
 use uvm_report::{Actions, Report, Severity, Which};
 
-/// Gives the text of an act, as it stands in the line of its entry, without its outcome.
+/// Returns the text of an action, as the line of its entry shows it, without its outcome. Errors: out of memory.
 #[tactic(auto, using(crate::proofs::Printed::printed))]
 pub fn act_text(alloc: Global, act: &Act) -> Result<Vec<u8>, AllocError>
     ensures text { IfOk result (λ text. text.items ≡ act_text act.now) }
@@ -190,7 +190,7 @@ fn push_wait(ticks: u64, tag: u32, line: &mut Vec<u8>) -> Result<(), AllocError>
     push_number(u64::from(tag), line)
 }
 
-// A word and a count.
+// Appends a text and a count in decimal.
 fn push_count(word: &[u8], count: u16, line: &mut Vec<u8>) -> Result<(), AllocError>
     ensures text { OnOk result (line.new.items ≡ line.old.items ++ (word.now ++ decimal count)) }
     ensures printed { OnOk result (IsPrinted (decimal count)) }
@@ -198,7 +198,7 @@ fn push_count(word: &[u8], count: u16, line: &mut Vec<u8>) -> Result<(), AllocEr
     push_ticks(word, u64::from(count), line)
 }
 
-// A word and some bytes.
+// Appends a text and some bytes.
 fn push_bytes(word: &[u8], bytes: &[u8], line: &mut Vec<u8>) -> Result<(), AllocError>
     ensures { OnOk result (line.new.items ≡ line.old.items ++ (word.now ++ bytes.now)) }
 {
@@ -206,7 +206,7 @@ fn push_bytes(word: &[u8], bytes: &[u8], line: &mut Vec<u8>) -> Result<(), Alloc
     line.extend_from_slice(bytes)
 }
 
-// The reports that a setting is for.
+// Appends the text of the reports for which something is set.
 #[tactic(auto, using(crate::proofs::Printed::printed))]
 fn push_which(which: &Which, line: &mut Vec<u8>) -> Result<(), AllocError>
     ensures text { OnOk result (line.new.items ≡ line.old.items ++ which_text which.now) }
@@ -227,7 +227,7 @@ fn push_which(which: &Which, line: &mut Vec<u8>) -> Result<(), AllocError>
     }
 }
 
-// An id that may be absent.
+// Appends an id, or `none` if there is none.
 #[tactic(auto, using(crate::proofs::Printed::printed))]
 fn push_id(id: &Option<Name>, line: &mut Vec<u8>) -> Result<(), AllocError>
     ensures text { OnOk result (line.new.items ≡ line.old.items ++ id_text id.now) }
@@ -239,7 +239,7 @@ fn push_id(id: &Option<Name>, line: &mut Vec<u8>) -> Result<(), AllocError>
     }
 }
 
-// The words of a set of actions.
+// Returns the text of a set of report actions, with commas between them; `none` if it is empty.
 fn actions_text(actions: Actions) -> &'static str
     ensures { result.now ≡ actions_text actions }
 {
@@ -255,7 +255,7 @@ fn actions_text(actions: Actions) -> &'static str
     }
 }
 
-// A word and two names.
+// Appends a text and two names with a blank between them.
 #[tactic(auto, using(crate::proofs::Printed::printed))]
 fn push_names(
     word: &[u8],

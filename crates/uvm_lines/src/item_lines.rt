@@ -1,4 +1,4 @@
-//! The lines of items, and of what is done with them.
+//! The texts of items, and of kinds of ports and FIFO transfers.
 
 ghost use Rattle.std.specs.Prelude.{◌≡◌, ◌++◌, ◌∷◌, ◌<◌, OnOk};
 ghost use Rattle.uvm_glob.specs.Printed.{IsPrinted};
@@ -9,7 +9,7 @@ use std::alloc::AllocError;
 use uvm_glob::Name;
 use uvm_tlm::{Item, MoveKind, PortKind};
 
-// A word and the name of a port or an imp.
+// Appends a text and the name of a port or an imp.
 pub(crate) fn push_named(word: &[u8], name: &Name, line: &mut Vec<u8>) -> Result<(), AllocError>
     ensures text { OnOk result (line.new.items ≡ line.old.items ++ (word.now ++ name.now)) }
     ensures printed { OnOk result (IsPrinted name.now) }
@@ -18,7 +18,7 @@ pub(crate) fn push_named(word: &[u8], name: &Name, line: &mut Vec<u8>) -> Result
     line.extend_from_slice(name.as_bytes())
 }
 
-// A word, the name of a port or an imp, and an item.
+// Appends a text, the name of a port or an imp, a blank and an item.
 #[tactic(auto, using(crate::proofs::Printed::printed))]
 pub(crate) fn push_named_item(
     word: &[u8],
@@ -34,7 +34,7 @@ pub(crate) fn push_named_item(
     push_item(item, line)
 }
 
-// An item that may be absent.
+// Appends an item, or `none` if there is none.
 #[tactic(auto, using(crate::proofs::Printed::printed))]
 pub(crate) fn push_some_item(item: &Option<Item>, line: &mut Vec<u8>) -> Result<(), AllocError>
     ensures text { OnOk result (line.new.items ≡ line.old.items ++ some_item_text item.now) }
@@ -46,7 +46,7 @@ pub(crate) fn push_some_item(item: &Option<Item>, line: &mut Vec<u8>) -> Result<
     }
 }
 
-// The four words of an item, in brackets.
+// Appends the four values of an item in brackets, with commas between them.
 #[tactic(auto, using(crate::proofs::Printed::printed))]
 pub(crate) fn push_item(item: &Item, line: &mut Vec<u8>) -> Result<(), AllocError>
     ensures text { OnOk result (line.new.items ≡ line.old.items ++ item_text item.now) }
@@ -60,7 +60,7 @@ pub(crate) fn push_item(item: &Item, line: &mut Vec<u8>) -> Result<(), AllocErro
     Ok(())
 }
 
-// A byte, and the word of an item at a place.
+// Appends a byte, and the value of an item at a place in decimal. Requires a place below 4.
 #[tactic(auto, using(crate::proofs::Printed::printed))]
 fn push_word(byte: u8, item: &Item, place: usize, line: &mut Vec<u8>) -> Result<(), AllocError>
     requires { place < 4 }

@@ -1,4 +1,4 @@
-//! The lines of a log: what passes through the machine of a testbench, as texts.
+//! The text of a log: one line for each entry, and the texts of calls, actions, components and sequences in it.
 #![tactic(auto)]
 
 mod act_lines;

@@ -1,4 +1,4 @@
-//! The lines of entries.
+//! The lines of the entries of a log.
 
 ghost use Rattle.std.specs.Prelude.{◌≡◌, ◌++◌, ◌∷◌, [], IfOk, OnOk, OnErr};
 ghost use Rattle.std.specs.Fmt.{decimal, signed_decimal};
@@ -20,10 +20,10 @@ use uvm_sequences::Sequences;
 use uvm_tlm::Item;
 use uvm_tree::{NodeId, Tree};
 
-/// Appends the line of an entry, with its newline. The tree tells the paths of the nodes; the top, and a node that the tree
-/// does not have, is `uvm_top`. The sequences tell their names. Where memory is refused nothing is appended.
+/// Appends the line of an entry to `out`, with its newline. `tree` gives the paths of the nodes, and `sequences` the names of the
+/// sequences. The root, and a node that the tree does not have, is `uvm_top`. Errors: out of memory. An error appends nothing.
 ///
-/// The line is built in `out` where that is empty, and in a vector of its own where it is not.
+/// If `out` is empty, the line is built in it; otherwise it is built in another vector and then copied.
 pub fn line_of(
     entry: &Entry,
     tree: &Tree,
@@ -107,7 +107,7 @@ fn push_entry(
     }
 }
 
-// A word, and who acts or is called, with a blank behind.
+// Appends a text, a component or sequence, and a blank.
 #[tactic(auto, using(crate::proofs::Printed::printed))]
 fn push_doer(
     word: &[u8],
@@ -149,7 +149,7 @@ pub(crate) fn push_two(front: &[u8], back: &str, line: &mut Vec<u8>) -> Result<(
     line.extend_from_slice(back.as_bytes())
 }
 
-/// Gives the text of a call, as it stands in the line of its entry, without the number of the acts that answer it.
+/// Returns the text of a call, as the line of its entry shows it, without the number of actions in the answer. Errors: out of memory.
 #[tactic(auto, using(crate::proofs::Printed::printed))]
 pub fn call_text(alloc: Global, call: &Call) -> Result<Vec<u8>, AllocError>
     ensures text { IfOk result (λ text. text.items ≡ call_text call.now) }
@@ -263,7 +263,7 @@ fn reason_text(reason: Reason) -> &'static str
     }
 }
 
-// A word and a number.
+// Appends a text and a number in decimal.
 pub(crate) fn push_ticks(word: &[u8], ticks: u64, line: &mut Vec<u8>) -> Result<(), AllocError>
     ensures text { OnOk result (line.new.items ≡ line.old.items ++ (word.now ++ decimal ticks)) }
     ensures printed { OnOk result (IsPrinted (decimal ticks)) }

@@ -1,4 +1,4 @@
-//! The lines of sequences, of their acts and of those of their driver.
+//! The texts of sequences, of their actions and calls, and of those of drivers.
 
 ghost use Rattle.std.specs.Prelude.{◌≡◌, ◌++◌, ◌∷◌, true, IfOk, OnOk};
 ghost use Rattle.uvm_glob.specs.Printed.{IsPrinted};
@@ -18,8 +18,8 @@ use uvm_sequences::{SeqId, Sequences};
 use uvm_tlm::Item;
 use uvm_tree::{NodeId, Tree};
 
-/// Returns the text of a component or a sequence, as the lines of entries show it: its path, and behind a sequence's its number. Errors:
-/// out of memory.
+/// Returns the text of a component or a sequence, as the lines of entries show it: its path, followed for a sequence by `#` and its number.
+/// Errors: out of memory.
 #[tactic(auto, using(crate::proofs::Printed::printed))]
 pub fn who_text(
     alloc: Global,
@@ -35,7 +35,7 @@ pub fn who_text(
     Ok(text)
 }
 
-// Somebody, a sequence with its number.
+// Appends the text of a component, or of a sequence with its number.
 #[tactic(auto, using(crate::proofs::Printed::printed))]
 pub(crate) fn push_who(
     who: &Who,
@@ -96,7 +96,7 @@ pub(crate) fn push_granted(
     push_drawn(grant.word, line)
 }
 
-// The word that was drawn, if one was.
+// Appends ` word ` and the random number that was consumed, if there is one.
 #[tactic(auto, using(crate::proofs::Printed::printed))]
 fn push_drawn(word: Option<u64>, line: &mut Vec<u8>) -> Result<(), AllocError>
     ensures text { OnOk result (line.new.items ≡ line.old.items ++ drawn_text word) }
@@ -196,7 +196,7 @@ fn push_start(
     push_priority(b") ", priority, line)
 }
 
-// A word, and a priority that may not be given.
+// Appends a text and a priority, or `none` if there is none.
 #[tactic(auto, using(crate::proofs::Printed::printed))]
 fn push_priority(word: &[u8], priority: Option<u16>, line: &mut Vec<u8>) -> Result<(), AllocError>
     ensures text { OnOk result (line.new.items ≡ line.old.items ++ (word.now ++ priority_text priority)) }

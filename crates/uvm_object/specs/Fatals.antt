@@ -63,6 +63,6 @@ text_of OutOfRange = codes "value out of range"
 text_of Timeout = codes "time limit passed"
 text_of Stall = codes "objection stands and nothing is due"
 
--- the report itself
+-- the fatal report of the kernel, with verbosity 0
 abbrev pub fatal_report : Fatal → Report
 fatal_report fatal = record { severity = severity.Fatal; id = id_of fatal; text = text_of fatal; verbosity = 0 }

@@ -1,20 +1,20 @@
--- What contracts see of a log.
+-- The value of a log in contracts.
 use Rattle.std.specs.Prelude.{ℕ, ◌+◌, List, length, codes}
 use Rattle.uvm_object.specs.declared.entries.Entry.{Entry}
 use Rattle.uvm_object.specs.declared.logs.LogFault.{LogFault}
 use Rattle.uvm_object.specs.declared.logs.LogFault.TheVariants.{Full, Memory}
 
--- the entries, the newest first, how many there may be, and for how many more there is room
+-- the value of a log: the entries (newest first), the limit of entries, and the number of further entries for which capacity is reserved
 pub record LogValue : Type 0 where
   pub entries : List Entry
   pub limit : ℕ
   pub spare : ℕ
 
--- how many entries fit before memory is taken
+-- the number of entries that a log can have before it allocates memory
 abbrev pub capacity_of : LogValue → ℕ
 capacity_of log = length log.entries + log.spare
 
--- what is told of each fault
+-- the text of each error
 abbrev pub fault_text : LogFault → List ℕ
 fault_text Full = codes "log full"
 fault_text Memory = codes "out of memory"

@@ -1,4 +1,4 @@
--- The origin that an entry holds.
+-- How an entry stores an origin.
 use Rattle.std.specs.Prelude.{Option, Some, None}
 use Rattle.uvm_object.specs.declared.entries.Origin.{Origin}
 use Rattle.uvm_object.specs.declared.entries.CompactOrigin.{CompactOrigin}

@@ -1,4 +1,4 @@
--- The outcome that an entry holds.
+-- How an entry stores an outcome.
 use Rattle.std.specs.Prelude.{Some, None}
 use Rattle.uvm_object.specs.declared.entries.Outcome.{Outcome}
 use Rattle.uvm_object.specs.declared.entries.Outcome.TheVariants as outcome

@@ -1,4 +1,4 @@
--- The passage that an entry holds.
+-- How an entry stores a transfer.
 use Rattle.uvm_object.specs.declared.entries.Passage.{Passage}
 use Rattle.uvm_object.specs.declared.entries.CompactPassage.{CompactPassage}
 use Rattle.uvm_object.specs.declared.entries.CompactPassage.TheVariants.{Short, Whole}

@@ -1,5 +1,5 @@
--- The words in which the relation of an object is written, in one place: phases, calls, acts and what is in them. Of two that have one
--- name the one of the calls keeps it, and then that of the acts. To connect, to start and to report go by the words of `Answers`.
+-- The names for writing the relation of an object: phases, calls, actions and their contents. If a name is ambiguous, it is that of a call, or
+-- else that of an action. The actions connect, start and report are `connecting`, `starting` and `reporting` of `Answers`.
 pub use Rattle.uvm_phase.specs.declared.phases.Phase.TheVariants.{Build, Connect, EndOfElaboration, StartOfSimulation, Run, Extract, Check, Report, Final}
 pub use Rattle.uvm_report.specs.declared.severities.Severity.TheVariants.{Info, Warning, Error, Fatal}
 pub use Rattle.uvm_tlm.specs.declared.items.Item.{Item}

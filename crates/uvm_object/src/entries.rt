@@ -7,78 +7,78 @@ ghost use Rattle.uvm_object.specs.declared.entries.Entry.TheVariants.{Heard};
 use crate::fatals::Fatal;
 use std::alloc::{AllocError, Global};
 use std::marker::Model;
-use uvm_acts::{Acts, Call, Deed, HeldCall, Who};
+use uvm_acts::{Acts, Call, StoredAct, StoredCall, Who};
 use uvm_glob::{Name, ShortName};
 use uvm_phase::{Cause, Phase};
 use uvm_sequences::SeqId;
 use uvm_tlm::{Item, MoveKind};
 use uvm_tree::NodeId;
 
-/// What became of an act.
+/// The outcome of an action.
 #[derive(Clone, Copy)]
 pub enum Outcome {
-    /// It was performed.
+    /// The action was performed.
     Done,
-    /// An object of this type was created.
+    /// The factory created an object of this type.
     Made(Name),
-    /// This sequence was started.
+    /// The sequence with this number was started.
     Started(SeqId),
-    /// A field was asked for: its value, if it has one.
+    /// The result of `Act::Get`: the value of the field; none if no setting applies.
     Value(Option<i64>),
-    /// An item was to be put at once: whether it is in the FIFO.
+    /// The result of `Act::TryPut`: whether the item is in the FIFO.
     Stored(bool),
-    /// An item was to be taken at once: the item, if one could be.
+    /// The result of `Act::TryTake`: the item; none if none could be taken.
     Taken(Option<Item>),
-    /// A driver asked by a `Try`: whether there is a candidate, for which it waits.
+    /// The result of `Act::Ask` with `How::Try`: whether there is a candidate, for which the driver then waits.
     Waits(bool),
-    /// A sequence ended its last step.
+    /// The sequence has ended its last step.
     Finished,
-    /// It was refused, and this was reported.
+    /// The action was rejected with this fatal report.
     Refused(Fatal),
 }
 
-/// Why a run is over.
+/// The reason why a run ended.
 #[derive(Clone, Copy, PartialEq, Eq)]
 pub enum Reason {
-    /// All phases were run.
+    /// All phases have ended.
     Finished,
-    /// A report asked for exit.
+    /// A report had the action exit.
     Exit,
-    /// The test was not created.
+    /// The creation of the test was rejected.
     NoTest,
-    /// An objection stood, and nothing was due any more.
+    /// An objection kept a phase from its end, and no event was due.
     Stall,
-    /// What was due next was due beyond the time limit.
+    /// The next event was due after the time limit.
     Timeout,
 }
 
-/// Why a call, or the end of a drain, was due, and the phase to which it belongs: that of the act which caused it, or that of the ask, the
-/// put or the sequence for which the act was performed.
+/// The reason why a call or the end of a drain was due, and its phase. This is the phase of the action that caused it, or that of the ask, the
+/// put or the sequence for which the action was performed.
 #[derive(Clone, Copy, PartialEq, Eq)]
 pub struct Origin {
-    /// Why it was due.
+    /// The cause of the call, or of the end of the drain.
     pub cause: Cause,
-    /// The phase to which it belongs (IEEE 1800.2-2020, Clause 9).
+    /// Its phase (IEEE 1800.2-2020, Clause 9).
     pub phase: Phase,
 }
 
-// An origin in three numbers of 32 bits and less.
+// An origin or none, in numbers of at most 32 bits each.
 #[derive(Drop)]
 enum CompactOrigin {
-    /// None, of a phase's call.
+    /// No origin: the call is a `Call::Phase`.
     None,
-    /// An origin.
+    /// The origin of another call.
     Caused {
-        /// The phase to which it belongs.
+        /// The phase of the call.
         phase: Phase,
-        /// The place of the entry that caused it.
+        /// The place of the entry that caused the call, from 0.
         place: u32,
-        /// The number of the call among those of that entry.
+        /// The number of the call among those of that entry, from 0.
         number: u32,
     },
 }
 
-/// The origin of the call of an entry: why it was due, and in which phase. Contracts see the origin.
+/// The origin of the call of an entry, or none. In contracts it is the origin, if there is one.
 #[derive(Drop)]
 pub struct LoggedOrigin {
     compact: CompactOrigin,
@@ -95,7 +95,7 @@ impl Model for LoggedOrigin {
 }
 
 impl LoggedOrigin {
-    // An origin, to be logged.
+    // Creates the stored form of an origin, or of none.
     fn new(origin: Option<Origin>) -> LoggedOrigin
         ensures { result ≡ origin }
     {
@@ -110,7 +110,7 @@ impl LoggedOrigin {
         LoggedOrigin { compact }
     }
 
-    /// The origin, which a phase's call has not.
+    /// Returns the origin; `None` for a `Call::Phase`.
     pub fn get(&self) -> Option<Origin>
         ensures { result ≡ self.now }
     {
@@ -131,39 +131,39 @@ impl LoggedOrigin {
     }
 }
 
-// An outcome of two words: a name stands behind a pointer, and a value that was not found is a variant of its own.
+// An outcome in two machine words. Names and items are stored on the heap, and an absent value or item is a variant of its own.
 #[derive(Drop)]
 enum CompactOutcome {
-    /// It was performed.
+    /// The action was performed.
     Done,
-    /// An object of this type was created.
+    /// The factory created an object of this type.
     Made(Box<Name>),
-    /// This sequence was started.
+    /// The sequence with this number was started.
     Started(SeqId),
-    /// A field without a value was asked for.
+    /// The result of `Act::Get` if no setting applies.
     NoValue,
-    /// This value was found.
+    /// The value that `Act::Get` found.
     Value(i64),
-    /// Whether an item was put at once.
+    /// The result of `Act::TryPut`: whether the item is in the FIFO.
     Stored(bool),
-    /// No item could be taken at once.
+    /// The result of `Act::TryTake` if no item could be taken.
     NoItem,
-    /// This item was taken at once.
+    /// The item that `Act::TryTake` took.
     Taken(Box<Item>),
-    /// Whether a driver that asked by a `Try` waits.
+    /// The result of `Act::Ask` with `How::Try`: whether there is a candidate, for which the driver then waits.
     Waits(bool),
-    /// A sequence ended its last step.
+    /// The sequence has ended its last step.
     Finished,
-    /// It was refused.
+    /// The action was rejected with this fatal report.
     Refused(Fatal),
 }
 
-/// The outcome of an entry. Contracts see the outcome.
+/// The stored form of the outcome of an entry. In contracts it is the outcome.
 pub struct LoggedOutcome {
     compact: CompactOutcome,
 }
 
-// (By hand, so that crates above prove no drop of what it holds.)
+// (Implemented by hand, so that dependent crates need no proof about the drop of its field.)
 impl Drop for LoggedOutcome {
     fn drop(self) {
         let LoggedOutcome { compact: _ } = self;
@@ -180,7 +180,7 @@ impl Model for LoggedOutcome {
 }
 
 impl LoggedOutcome {
-    /// The outcome `Done`.
+    /// Creates the outcome `Done`.
     pub fn done() -> LoggedOutcome
         ensures { result ≡ Done }
     {
@@ -189,7 +189,7 @@ impl LoggedOutcome {
         }
     }
 
-    /// The outcome `Made`; the room is for the type's name, so that no memory is taken.
+    /// Creates the outcome `Made`. It stores the type's name in `room`, whose content is replaced, and allocates no memory.
     pub fn made(mut room: Box<Name>, type_name: Name) -> LoggedOutcome
         ensures { result ≡ Made type_name }
     {
@@ -199,7 +199,7 @@ impl LoggedOutcome {
         }
     }
 
-    /// The outcome `Started`.
+    /// Creates the outcome `Started`.
     pub fn started(id: SeqId) -> LoggedOutcome
         ensures { result ≡ Started id }
     {
@@ -208,7 +208,7 @@ impl LoggedOutcome {
         }
     }
 
-    /// The outcome `Value`.
+    /// Creates the outcome `Value`.
     pub fn value(value: Option<i64>) -> LoggedOutcome
         ensures { result ≡ Value value }
     {
@@ -219,7 +219,7 @@ impl LoggedOutcome {
         LoggedOutcome { compact }
     }
 
-    /// The outcome `Stored`.
+    /// Creates the outcome `Stored`.
     pub fn stored(stored: bool) -> LoggedOutcome
         ensures { result ≡ Stored stored }
     {
@@ -228,7 +228,7 @@ impl LoggedOutcome {
         }
     }
 
-    /// The outcome `Taken`. It takes memory for an item; the error is want of it, which does not come where there is no item.
+    /// Creates the outcome `Taken`. Errors: out of memory, only if there is an item.
     pub fn taken(alloc: Global, item: Option<Item>) -> Result<LoggedOutcome, AllocError>
         ensures ok { IfOk result (λ outcome. outcome ≡ Taken item) }
         ensures none { item ≡ None → IsOk result }
@@ -240,7 +240,7 @@ impl LoggedOutcome {
         Ok(LoggedOutcome { compact })
     }
 
-    /// The outcome `Waits`.
+    /// Creates the outcome `Waits`.
     pub fn waits(waits: bool) -> LoggedOutcome
         ensures { result ≡ Waits waits }
     {
@@ -249,7 +249,7 @@ impl LoggedOutcome {
         }
     }
 
-    /// The outcome `Finished`.
+    /// Creates the outcome `Finished`.
     pub fn finished() -> LoggedOutcome
         ensures { result ≡ Finished }
     {
@@ -258,7 +258,7 @@ impl LoggedOutcome {
         }
     }
 
-    /// The outcome `Refused`.
+    /// Creates the outcome `Refused`.
     pub fn refused(fatal: Fatal) -> LoggedOutcome
         ensures { result ≡ Refused fatal }
     {
@@ -267,7 +267,7 @@ impl LoggedOutcome {
         }
     }
 
-    /// The outcome.
+    /// Returns the outcome.
     pub fn get(&self) -> Outcome
         ensures { result ≡ self.now }
     {
@@ -287,24 +287,24 @@ impl LoggedOutcome {
     }
 }
 
-/// How a put, a take or a peek that was asked for came to pass.
+/// The completion of a put, a take or a peek at a FIFO: a transfer.
 #[derive(Clone, Copy, PartialEq, Eq)]
 pub struct Passage {
-    /// What passed: an item went in or out, or was shown.
+    /// What the transfer does: an item goes in, goes out, or is shown and stays.
     pub kind: MoveKind,
-    /// Who had asked.
+    /// The requester.
     pub who: Who,
-    /// The port that was asked through.
+    /// The port of the request.
     pub port: Name,
     /// The item.
     pub item: Item,
-    /// The place of the entry of the act that asked.
+    /// The place of the entry of the action that requested the transfer, from 0.
     pub request: u64,
-    /// The phase in which it was asked for.
+    /// The phase of the request.
     pub phase: Phase,
 }
 
-// A passage through a port of a short name.
+// A transfer through a port with a short name.
 #[derive(Drop)]
 struct ShortPassage {
     kind: MoveKind,
@@ -315,21 +315,21 @@ struct ShortPassage {
     item: Item,
 }
 
-// A passage behind a pointer.
+// A transfer, stored on the heap.
 #[derive(Drop)]
 enum CompactPassage {
-    /// One through a port of a short name.
+    /// A transfer through a port with a short name.
     Short(Box<ShortPassage>),
-    /// Any passage.
+    /// Any transfer.
     Whole(Box<Passage>),
 }
 
-/// The passage of an entry. Contracts see the passage.
+/// The stored form of the transfer of an entry. In contracts it is the transfer.
 pub struct LoggedPassage {
     compact: CompactPassage,
 }
 
-// (By hand, so that crates above prove no drop of what it holds.)
+// (Implemented by hand, so that dependent crates need no proof about the drop of its field.)
 impl Drop for LoggedPassage {
     fn drop(self) {
         let LoggedPassage { compact: _ } = self;
@@ -346,7 +346,7 @@ impl Model for LoggedPassage {
 }
 
 impl LoggedPassage {
-    /// A passage, to be logged. Errors: out of memory.
+    /// Creates the stored form of a transfer. Errors: out of memory.
     pub fn new(alloc: Global, passage: Passage) -> Result<LoggedPassage, AllocError>
         ensures { IfOk result (λ logged. logged ≡ passage) }
     {
@@ -367,7 +367,7 @@ impl LoggedPassage {
         Ok(LoggedPassage { compact })
     }
 
-    /// The passage.
+    /// Returns the transfer.
     pub fn get(&self) -> Passage
         ensures { result ≡ self.now }
     {
@@ -385,12 +385,12 @@ impl LoggedPassage {
     }
 }
 
-/// How a sequence was granted.
+/// A sequence that was granted, and the random number that decided it.
 #[derive(Clone, Copy, PartialEq, Eq)]
 pub struct Grant {
     /// The sequence.
     pub id: SeqId,
-    /// The word that decided, where one was drawn.
+    /// The random number that decided; none if none was consumed.
     pub word: Option<u64>,
 }
 
@@ -401,69 +401,70 @@ pub enum Entry {
     Begin(Phase),
     /// A phase ends.
     End(Phase),
-    /// Time passes to this moment, in ticks.
+    /// Time advances to this time, in ticks.
     Time(u64),
-    /// An object was called and answered. A call that was due names its origin; a phase's call has none.
+    /// An object received a call and answered it. A `Call::Phase` has no origin; every other call has one.
     Heard {
-        /// Who was called.
+        /// The receiver of the call.
         who: Who,
-        /// Why it was due, and in which phase.
+        /// The reason why the call was due, and its phase.
         origin: LoggedOrigin,
         /// The call.
-        call: HeldCall,
+        call: StoredCall,
         /// The answer.
         acts: Acts,
     },
-    /// An act of the last answer was performed or refused.
+    /// An action of the last answer was performed or rejected.
     Did {
-        /// Who answered it.
+        /// The performer.
         who: Who,
-        /// What became of it.
+        /// The outcome of the action.
         outcome: LoggedOutcome,
-        /// The act.
-        act: Deed,
+        /// The action.
+        act: StoredAct,
     },
-    /// A sequence has its lock or grab, and holds the sequencer (Clause 15).
+    /// A sequence receives its lock or grab: from now on it holds the sequencer (Clause 15).
     Locked {
         /// The sequencer.
         sequencer: NodeId,
         /// The sequence.
         id: SeqId,
     },
-    /// A sequence may send its item: its request was granted (Clause 15).
+    /// The request of a sequence is granted: it may send its item (Clause 15).
     Granted {
         /// The sequencer.
         sequencer: NodeId,
-        /// Which, and how it was chosen.
+        /// The sequence, and the random number that decided.
         grant: Grant,
     },
-    /// An item went into a FIFO or out of it, or was shown: what somebody had asked for came to pass (Clause 12).
+    /// A put, a take or a peek at a FIFO completes (Clause 12).
     Passed {
         /// The FIFO.
         fifo: NodeId,
-        /// What came to pass.
+        /// The transfer.
         passage: LoggedPassage,
     },
-    /// The drain of a node is over: what was held back is passed up (Clause 10.5).
+    /// The drain time of a node ends: the drop that it delayed propagates to the parent (Clause 10.5).
     Drained {
         /// The node.
         node: NodeId,
-        /// Why its drain had begun, and in which phase.
+        /// The reason why the drain began, and its phase.
         origin: Origin,
     },
-    /// The kernel reports at a node.
+    /// The kernel issues a fatal report at a node.
     Note {
         /// The report.
         fatal: Fatal,
         /// The node.
         node: NodeId,
     },
-    /// The run is over: no entry comes after.
+    /// The run ends for this reason: no entry follows.
     Over(Reason),
 }
 
 impl Entry {
-    /// The entry of a call that was answered. It takes memory for a call with an item or a long name; the error is want of it.
+    /// Creates the entry of a call and its answer, and releases the unused capacity of the answer. Errors: out of memory, only for a call
+    /// with an item or a name.
     pub fn heard(
         alloc: Global,
         who: Who,
@@ -477,7 +478,7 @@ impl Entry {
         Ok(Entry::Heard {
             who,
             origin: LoggedOrigin::new(origin),
-            call: HeldCall::new(alloc, call)?,
+            call: StoredCall::new(alloc, call)?,
             acts,
         })
     }

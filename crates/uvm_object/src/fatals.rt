@@ -21,7 +21,7 @@ pub enum Fatal {
     InvalidType,
     /// CLDEXT: the performer already has a child of that name.
     ChildTaken,
-    /// TREELIM: the tree would have more than 4,096 nodes below the top, or a new path more than 32 names or 1,024
+    /// TREELIM: the tree would have more than 4,096 nodes below the root, or a new path more than 32 names or 1,024
     /// bytes.
     TreeLimit,
     /// OVRDLOOP: the overrides of the type form a loop.

@@ -1,4 +1,4 @@
-//! What passes through the machine of a testbench: calls, acts, and the entries of its log; and how who speaks there is shown as text.
+//! The objects of a testbench, the entries of its log, the fatal reports of the kernel, and the texts of components and sequences.
 #![tactic(auto)]
 
 mod entries;
@@ -14,4 +14,6 @@ pub use fatals::Fatal;
 pub use logs::{Log, LogFault};
 pub use objects::{Answers, Object, UvmObject};
 pub use sources::{push_node, push_sequence, shown_path, source_of};
-pub use uvm_acts::{Act, Acts, ActsIter, Call, Deed, HeldCall, LentAct, Notice, What, Who};
+pub use uvm_acts::{
+    Act, ActRef, Acts, ActsIter, Call, EventCall, StoredAct, StoredCall, What, Who,
+};

@@ -1,4 +1,4 @@
-//! The log.
+//! The log of a run: its entries, up to a limit.
 
 ghost use Rattle.std.specs.Prelude.{◌≡◌, ◌≢◌, ◌==◌, ◌↔◌, ◌∷◌, ◌<◌, ◌≤◌, [], length, reverse, nat_le, slice_get, Err, IsOk, OnOk, OnErr, option_copied};
 ghost use Rattle.std.specs.Slice.Iter.{iter_rest};
@@ -11,12 +11,12 @@ use std::error::Error;
 use std::marker::Model;
 use std::{fmt, slice};
 
-/// Why an entry is not taken, in the order in which it is looked for.
+/// The reason why the log rejects an entry, in the order of the checks.
 #[derive(Clone, Copy, Debug, PartialEq, Eq)]
 pub enum LogFault {
-    /// The log has as many entries as it may have.
+    /// The limit of entries is reached.
     Full,
-    /// Memory was refused.
+    /// Out of memory.
     Memory,
 }
 
@@ -47,14 +47,14 @@ impl<T: Drop> From<AllocFailed<T>> for LogFault {
     }
 }
 
-/// The entries so far, up to a limit. Contracts see them with the newest first, so that what was before an entry is what stands
-/// after it in the list, and beside them the limit, and for how many more entries there is room.
+/// The entries of a run so far, up to a limit. In contracts it is a `LogValue`: the list of entries with the newest first, the limit, and the
+/// number of further entries for which capacity is reserved. In that list the entries before an entry follow it.
 pub struct Log {
     entries: Vec<Entry>,
     limit: u32,
 }
 
-// (By hand, so that crates above prove no drop of what it holds.)
+// (Implemented by hand, so that dependent crates need no proof about the drop of its field.)
 impl Drop for Log {
     fn drop(self) {
         let Log {
@@ -76,7 +76,7 @@ impl Model for Log {
 }
 
 impl Log {
-    /// No entries, and room for none. The limit is how many entries there may be.
+    /// Creates a log without entries and without reserved capacity. `limit` is the maximum number of entries.
     pub fn new(alloc: Global, limit: u32) -> Log
         ensures entries { result.entries ≡ [] }
         ensures limit { result.limit ≡ limit }
@@ -87,8 +87,8 @@ impl Log {
         }
     }
 
-    /// Makes room for an entry: the next `push` then takes no memory. Errors: out of memory, which does not come where there
-    /// is room. No room is given up.
+    /// Reserves capacity for one more entry, so that the next `push` allocates no memory. No reserved capacity is lost. Errors: out of memory,
+    /// only if none was reserved. An error changes no entry.
     pub fn reserve(&mut self) -> Result<(), AllocError>
         ensures entries { self.new.entries ≡ self.old.entries }
         ensures limit { self.new.limit ≡ self.old.limit }
@@ -99,8 +99,8 @@ impl Log {
         self.entries.reserve(1)
     }
 
-    /// Adds an entry: `Full` where the limit is reached, else `Memory` where there is no room for it and none can be had. No room is
-    /// given up, also where the entry is refused.
+    /// Appends an entry. Errors: `Full` if the limit is reached; `Memory` if out of memory, only if no capacity was reserved. An error changes
+    /// no entry. No reserved capacity is lost, even on an error.
     pub fn push(&mut self, entry: Entry) -> Result<(), LogFault>
         ensures ok { OnOk result (self.new.entries ≡ entry ∷ self.old.entries) }
         ensures full { (result ≡ Err LogFault.Full) ↔ (self.old.limit ≤ length self.old.entries) }
@@ -118,56 +118,56 @@ impl Log {
         }
     }
 
-    /// How many entries there may be, as `new` was told. Takes no memory.
+    /// Returns the maximum number of entries, as given to `new`. Allocates no memory.
     pub fn limit(&self) -> usize
         ensures { result ≡ self.now.limit }
     {
         self.limit as usize
     }
 
-    /// Whether the limit is reached.
+    /// Returns whether the limit is reached.
     pub fn is_full(&self) -> bool
         ensures { result ≡ nat_le self.now.limit (length self.now.entries) }
     {
         self.limit() <= self.entries.len()
     }
 
-    /// How many entries there are.
+    /// Returns the number of entries.
     pub fn len(&self) -> usize
         ensures { result ≡ length self.now.entries }
     {
         self.entries.len()
     }
 
-    /// Gives the place of the next entry, from 0: how many there are. A full log takes no next one.
+    /// Returns the place of the next entry, from 0, which is the number of entries. A full log accepts no further entry.
     pub fn next_place(&self) -> u32
         ensures { result ≡ length self.now.entries }
     {
         self.entries.len() as u32
     }
 
-    /// Whether there is none.
+    /// Returns whether there are no entries.
     pub fn is_empty(&self) -> bool
         ensures { result ≡ (length self.now.entries == 0) }
     {
         self.entries.is_empty()
     }
 
-    /// The entry at a place, from 0 for the oldest, if there are so many.
+    /// Returns the entry at a place, from 0 for the oldest; `None` if the place is not below the number of entries.
     pub fn get(&self, place: usize) -> Option<&Entry>
         ensures { option_copied result ≡ slice_get (reverse self.now.entries) place }
     {
         self.entries.get(place)
     }
 
-    /// The newest entry, if there is one.
+    /// Returns the newest entry, if there is one.
     pub fn last(&self) -> Option<&Entry>
         ensures { option_copied result ≡ newest self.now.entries }
     {
         self.entries.last()
     }
 
-    /// The entries in order, from the oldest. It takes no memory.
+    /// Returns an iterator over the entries, the oldest first. Allocates no memory.
     pub fn iter(&self) -> slice::Iter<'_, Entry>
         ensures { iter_rest result ≡ reverse self.now.entries }
     {
@@ -175,7 +175,7 @@ impl Log {
     }
 }
 
-/// The entries in order, from the oldest.
+/// Iterates over the entries, the oldest first.
 impl<'a> IntoIterator for &'a Log {
     ghost use Rattle.std.specs.Prelude.{◌≡◌, reverse};
     ghost use Rattle.std.specs.Slice.Iter.{iter_rest};

@@ -9,12 +9,12 @@ use std::alloc::{AllocError, Global};
 use uvm_acts::{Acts, Call};
 use uvm_glob::Name;
 
-/// An object of a testbench: a component (IEEE 1800.2-2020, Clause 13), or a sequence (Clause 14). It hears a call and answers
-/// with acts.
+/// An object of a testbench: a component (IEEE 1800.2-2020, Clause 13), or a sequence (Clause 14). It receives a call and answers
+/// with actions.
 ///
-/// What it means is written in three ghost members. Its `view` is what it shows of itself, as numbers; its `name` is that of
-/// its type; and its relation `says` holds of a view, a call, the acts that may answer it there, and the view that comes after.
-/// An object that allows one answer and one next view at each call is a function of its calls.
+/// Three ghost members state its meaning. `view` is its visible state, as numbers, and `name` is the name of its type. The relation
+/// `says` relates a view, a call, the actions that may answer the call in this view, and the next view. If the relation allows one
+/// answer and one next view for each call, the object is a function of its calls.
 pub trait UvmObject: Drop {
     ghost view: { Self → List ℕ };
 
@@ -22,19 +22,19 @@ pub trait UvmObject: Drop {
 
     ghost says: { Self → List ℕ → Call → List Act → List ℕ → Type 0 };
 
-    /// The name of its type, by which the factory makes it (Clause 8).
+    /// Returns the name of its type, by which the factory creates it (Clause 8).
     fn type_name(&self) -> &Name
         ensures { result.now ≡ name self.now };
 
-    /// Answers a call. Errors: out of memory; its view is unknown then. Its type name and its relation stay, whatever
-    /// it answers.
+    /// Returns its answer to a call. Its type name and its relation stay the same. Errors: out of memory. After an error the view is
+    /// unknown.
     fn hear(&mut self, alloc: Global, call: &Call) -> Result<Acts, AllocError>
         ensures same_name { name self.new ≡ name self.old }
         ensures same_says { SameSays (says self.new) (says self.old) }
         ensures said { IfOk result (λ acts. says self.old (view self.old) call.now acts (view self.new)) };
 }
 
-/// A boxed object is the object in the box.
+/// A boxed object behaves as the object in the box.
 impl UvmObject for Box<dyn UvmObject> {
     ghost view = { λ b. (UvmObject-box b).view b.value };
 
@@ -51,9 +51,8 @@ impl UvmObject for Box<dyn UvmObject> {
     }
 }
 
-/// What answers the calls to an object, of whichever type: `Object` makes an object of it. What it means is written as that of an
-/// object is, in a `view` and a relation `says`. Where they are left out it shows nothing and its relation always holds: then its
-/// answers are recorded, and nothing else is known of them.
+/// The behaviour of an object, without the name of its type: `Object` makes an object of both. Its ghost members `view` and `says` are those
+/// of `UvmObject`. By default the view is empty and the relation always holds, so that nothing is proved about its answers.
 pub trait Answers: Drop {
     ghost use Rattle.std.specs.Prelude.{[], ⊤};
 
@@ -61,23 +60,23 @@ pub trait Answers: Drop {
 
     ghost says: { Self → List ℕ → Call → List Act → List ℕ → Type 0 } = { λ _ _ _ _ _. ⊤ };
 
-    /// Answers a call. Errors: out of memory; its view is unknown then. Its relation stays, whatever it answers.
+    /// Returns the answer to a call. The relation stays the same. Errors: out of memory. After an error the view is unknown.
     fn answer(&mut self, alloc: Global, call: &Call) -> Result<Acts, AllocError>
         ensures same_says { SameSays (says self.new) (says self.old) }
         ensures said { IfOk result (λ acts. says self.old (view self.old) call.now acts (view self.new)) };
 }
 
-/// An object of the type of a name, which shows and answers what its part does.
+/// An object with a type name, which has the view, the relation and the answers of its part.
 #[derive(Drop)]
 pub struct Object<T> {
     /// The name of its type.
     pub type_name: Name,
-    /// What answers.
+    /// The behaviour, which answers the calls.
     pub part: T,
 }
 
 impl<T> Object<T> {
-    /// An object of the type of this name.
+    /// Creates an object with this type name.
     pub fn new(type_name: Name, part: T) -> Object<T>
         ensures { result ≡ record { type_name = type_name; part = part } }
     {

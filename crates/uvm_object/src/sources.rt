@@ -1,4 +1,4 @@
-//! Nodes by their paths, and sequences by the paths of their homes and the names down to themselves.
+//! The texts of nodes and sequences: a node by its path, a sequence by its sequencer's path and the names from its root sequence down.
 
 ghost use Rattle.std.specs.Prelude.{◌≡◌, ◌∷◌, ◌++◌, IfOk, OnOk};
 ghost use Rattle.uvm_glob.specs.Paths.{path_text};
@@ -12,7 +12,7 @@ use uvm_glob::Name;
 use uvm_sequences::{SeqId, Sequences};
 use uvm_tree::{NodeId, Tree};
 
-/// Returns how lines show a node: by its path; the top, and a node that the tree does not have, is `uvm_top`. Takes no memory.
+/// Returns the text of a node: its path; `uvm_top` for the root, and for a node that the tree does not have. Allocates no memory.
 pub fn shown_path(node: NodeId, tree: &Tree) -> &[u8]
     ensures text { result.now ≡ shown_path (path_at tree.now.nodes node) }
     ensures printed { IsPrinted result.now }
@@ -23,8 +23,8 @@ pub fn shown_path(node: NodeId, tree: &Tree) -> &[u8]
     }
 }
 
-/// Returns how reports show their source (IEEE 1800.2-2020, Clause 6): a component by its path, a sequence by that of
-/// its home and the names from its root sequence down to itself, as `uvm_test_top.sqr@@a.b`. Errors: out of memory.
+/// Returns the text of the source of a report (IEEE 1800.2-2020, Clause 6). For a component it is its path. For a sequence it is the path of its
+/// sequencer and the names from its root sequence down to itself, as `uvm_test_top.sqr@@a.b`. Errors: out of memory.
 pub fn source_of(
     alloc: Global,
     who: &Who,
@@ -42,7 +42,7 @@ pub fn source_of(
     Ok(source)
 }
 
-/// Appends a word, and a node as `shown_path` shows it. Errors: out of memory; how much was appended is then not said.
+/// Appends `word` and the text of a node as `shown_path` returns it. Errors: out of memory. After an error an unspecified part is appended.
 pub fn push_node(
     word: &[u8],
     node: NodeId,
@@ -56,8 +56,7 @@ pub fn push_node(
     line.extend_from_slice(shown_path(node, tree))
 }
 
-/// Appends a sequence by its home and its names, as `source_of` shows it. Errors: out of memory; how much was appended is then
-/// not said.
+/// Appends the text of a sequence as `source_of` returns it. Errors: out of memory. After an error an unspecified part is appended.
 #[tactic(auto, using(crate::proofs::Joined::sequence_printed))]
 pub fn push_sequence(
     id: SeqId,
@@ -75,7 +74,7 @@ pub fn push_sequence(
     push_joined(names.as_slice(), line)
 }
 
-// Names, with a dot between each two.
+// Appends names with dots between them.
 fn push_joined(names: &[Name], line: &mut Vec<u8>) -> Result<(), AllocError>
     ensures text { OnOk result (line.new.items ≡ line.old.items ++ path_text names.now) }
     ensures printed { OnOk result (IsPrinted (path_text names.now)) }
@@ -90,7 +89,7 @@ fn push_joined(names: &[Name], line: &mut Vec<u8>) -> Result<(), AllocError>
     Ok(())
 }
 
-// A name behind a dot.
+// Appends a dot and a name.
 fn push_dotted(name: &Name, line: &mut Vec<u8>) -> Result<(), AllocError>
     ensures text { OnOk result (line.new.items ≡ line.old.items ++ 46 ∷ name.now) }
     ensures printed { OnOk result (IsPrinted name.now) }

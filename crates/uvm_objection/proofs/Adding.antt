@@ -1,14 +1,6 @@
 -- One more node.
-use Rattle.std.proofs.Common.{◌≡◌, ◌≢◌, ℕ, ◌+◌, Bool, true, false, cond, nat_eq, ◌||◌, ◌==◌, List, [], ◌∷◌, ◌++◌, length, map, Some, refl, sym, ap, ◌∙◌, subst, arith}
-use Rattle.std.proofs.lemmas.Bool.Decides.{nat_tests}
-use Rattle.std.specs.HashMap.{get}
-use Rattle.uvm_objection.specs.declared.nodes.Entry.{Entry}
-use Rattle.uvm_objection.specs.declared.objections.Objection.TheInside.{Inside}
-use Rattle.uvm_objection.specs.Nodes.{is_known}
-use Rattle.uvm_objection.specs.Kept.{node_of, Kept, Fits, IsObjection, shape}
+use Rattle.uvm_objection.proofs.Common.{◌≡◌, ◌≢◌, ℕ, ◌+◌, Bool, true, false, cond, nat_eq, ◌||◌, ◌==◌, List, [], ◌∷◌, ◌++◌, length, map, Some, refl, sym, ap, ◌∙◌, subst, arith, nat_tests, get, Entry, Inside, is_known, node_of, IsConsistent, Fits, IsObjection, shape, IsNew, AreUnder, IsTree, place_in}
 use Rattle.uvm_objection.proofs.Passed.{is_under, passed, when, AddUp}
-use Rattle.uvm_objection.specs.Laws.{IsNew, AreUnder, IsTree}
-use Rattle.uvm_objection.specs.Places.{place_in}
 use Rattle.uvm_objection.proofs.Trees.{Differs, distinct_of}
 use Rattle.uvm_objection.proofs.Places.{place_push}
 use Rattle.uvm_objection.proofs.Sums.{add_up, kept_of}
@@ -77,7 +69,7 @@ pub roomier : (o next : Inside) → IsObjection o → next.top ≡ o.top → nex
 roomier o next keeps top entries places =
     let all : next.top ∷ next.entries.items ≡ o.top ∷ o.entries.items = ap (λ e. e ∷ next.entries.items) top ∙ ap (λ l. o.top ∷ l) entries in
     let T : List Entry → Type 0 = λ l. IsTree (shape l) in
-    let K : List Entry → Type 0 = Kept in
+    let K : List Entry → Type 0 = IsConsistent in
     let F : List Entry → Type 0 = Fits in
     record {
       tree = subst T (sym all) keeps.tree;
@@ -99,7 +91,7 @@ added o next node parent new keeps unknown above made same is places =
     let more = es ++ new_entry node parent ∷ [] in
     let all : next.top ∷ next.entries.items ≡ more = ap (λ e. e ∷ next.entries.items) same ∙ ap (λ l. o.top ∷ l) (is ∙ ap (λ e. o.entries.items ++ e ∷ []) made) in
     let T : List Entry → Type 0 = λ l. IsTree (shape l) in
-    let K : List Entry → Type 0 = Kept in
+    let K : List Entry → Type 0 = IsConsistent in
     let F : List Entry → Type 0 = Fits in
     let tree = tree_push node parent es keeps.tree unknown above in
     record {

@@ -1,12 +1,5 @@
 -- A drain that began is due at its node, which holds something.
-use Rattle.std.proofs.Common.{◌≡◌, ◌<◌, ℕ, Bool, true, false, ◌||◌, ◌&&◌, ◌==◌, nat_lt, List, [], ◌∷◌, find, Some, refl, sym, arith}
-use Rattle.std.specs.Prelude.{All}
-use Rattle.std.proofs.lemmas.Bool.Decides.{nat_tests}
-use Rattle.std.proofs.lemmas.List.Elements.{All-nil, All-cons}
-use Rattle.uvm_objection.specs.declared.objections.Due.{Due}
-use Rattle.uvm_objection.specs.Nodes.{Node, held_of}
-use Rattle.uvm_objection.specs.Totals.{drains_begun}
-use Rattle.uvm_objection.specs.Laws.{places, IsNew, AreUnder, AreNodes, IsHeldUntilDue, BegunDrainsAreHeld}
+use Rattle.uvm_objection.proofs.Common.{◌≡◌, ◌<◌, ℕ, Bool, true, false, ◌||◌, ◌&&◌, ◌==◌, nat_lt, List, [], ◌∷◌, find, Some, refl, sym, arith, All, nat_tests, All-nil, All-cons, Due, Node, held_of, drains_begun, places, IsNew, AreUnder, AreNodes, IsHeldUntilDue, BegunDrainsAreHeld}
 use Rattle.uvm_objection.proofs.Trees.{same_node, other_node}
 
 -- each of some nodes is found among all

@@ -1,9 +1,5 @@
 -- What stands at a node once all are settled.
-use Rattle.std.proofs.Common.{◌≡◌, ℕ, Bool, true, false, ◌==◌, List, [], ◌∷◌, refl, ap, ◌∙◌, arith}
-use Rattle.std.proofs.lemmas.Bool.Decides.{nat_tests}
-use Rattle.uvm_objection.specs.Nodes.{Node}
-use Rattle.uvm_objection.specs.Totals.{total, begins, held_after, due_after, settled}
-use Rattle.uvm_objection.specs.Laws.{GoesByTotals, SettledGoByTotals}
+use Rattle.uvm_objection.proofs.Common.{◌≡◌, ℕ, Bool, true, false, ◌==◌, List, [], ◌∷◌, refl, ap, ◌∙◌, arith, nat_tests, Node, total, begins, held_after, due_after, settled, GoesByTotals, SettledGoByTotals}
 use Rattle.uvm_objection.proofs.Trees.{true_node}
 use Rattle.uvm_objection.proofs.Sums.{own_total}
 

@@ -1,17 +1,5 @@
 -- The drains that a walk begins and ends.
-use Rattle.std.proofs.Common.{◌≡◌, ◌≢◌, ◌<◌, ◌≤◌, ℕ, zero, suc, ◌+◌, Bool, true, false, ◌&&◌, ◌==◌, nat_lt, List, [], ◌∷◌, map, filter, Option, Some, None, is_some, refl, sym, ap, ◌∙◌, arith, if◌then◌else◌}
-use Rattle.std.specs.Option.{option_to_list}
-use Rattle.std.proofs.lemmas.Bool.Decides.{nat_tests}
-use Rattle.uvm_objection.specs.declared.nodes.Change.{Change}
-use Rattle.uvm_objection.specs.declared.nodes.ChangeKind.TheVariants.{Release}
-use Rattle.uvm_objection.specs.declared.nodes.Entry.{Entry}
-use Rattle.uvm_objection.specs.declared.objections.Due.{Due}
-use Rattle.uvm_objection.specs.declared.walks.Walk.{Walk}
-use Rattle.uvm_objection.specs.Nodes.{Node, held_of}
-use Rattle.uvm_objection.specs.Totals.{held_after}
-use Rattle.uvm_objection.specs.Changes.{held_changed, entry_changed, most_raised}
-use Rattle.uvm_objection.specs.Walks.{walked, entry_next, walk_next, is_at}
-use Rattle.uvm_objection.specs.Kept.{node_of}
+use Rattle.uvm_objection.proofs.Common.{◌≡◌, ◌≢◌, ◌<◌, ◌≤◌, ℕ, zero, suc, ◌+◌, Bool, true, false, ◌&&◌, ◌==◌, nat_lt, List, [], ◌∷◌, map, filter, Option, Some, None, is_some, refl, sym, ap, ◌∙◌, arith, if◌then◌else◌, option_to_list, nat_tests, Change, Release, Entry, Due, Walk, Node, held_of, held_after, held_changed, entry_changed, most_raised, walked, entry_next, walk_next, is_at, node_of}
 use Rattle.uvm_objection.proofs.Passed.{AddUp}
 use Rattle.uvm_objection.proofs.Trees.{Differs, Distinct, same_node, other_node, true_node}
 use Rattle.uvm_objection.proofs.Settling.{Rises, IsSettled, walk_settles, low_at, other, few_after, held_none, held_same}

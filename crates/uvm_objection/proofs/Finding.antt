@@ -1,12 +1,5 @@
 -- What is found of a node.
-use Rattle.std.proofs.Common.{◌≡◌, ℕ, Bool, nat_eq, true, false, ◌==◌, List, [], ◌∷◌, map, find, get_or, Some, None, refl, sym, ap, subst, ◌∙◌}
-use Rattle.std.specs.HashMap.{get}
-use Rattle.uvm_objection.specs.declared.nodes.Entry.{Entry}
-use Rattle.uvm_objection.specs.declared.objections.Objection.TheInside.{Inside}
-use Rattle.uvm_objection.specs.Nodes.{Node, is_known}
-use Rattle.uvm_objection.specs.Totals.{total}
-use Rattle.uvm_objection.specs.Kept.{node_of, shape, IsObjection}
-use Rattle.uvm_objection.specs.Places.{place_in}
+use Rattle.uvm_objection.proofs.Common.{◌≡◌, ℕ, Bool, nat_eq, true, false, ◌==◌, List, [], ◌∷◌, map, find, get_or, Some, None, refl, sym, ap, subst, ◌∙◌, get, Entry, Inside, Node, is_known, total, node_of, shape, IsObjection, place_in}
 use Rattle.uvm_objection.proofs.Sums.{Agree, agree, add_up}
 use Rattle.uvm_objection.proofs.Objecting.{entries_of}
 use Rattle.uvm_objection.proofs.Trees.{Differs, distinct_of, other_node, true_node}

@@ -1,14 +1,5 @@
 -- What a change makes of nodes, by their totals from scratch.
-use Rattle.std.proofs.Common.{◌≡◌, ◌<◌, ◌≤◌, ℕ, ◌+◌, Bool, true, false, ◌||◌, ◌==◌, List, [], ◌∷◌, ◌++◌, map, Option, refl, sym, ap, ◌∙◌, subst, arith}
-use Rattle.uvm_objection.specs.declared.nodes.Entry.{Entry}
-use Rattle.uvm_objection.specs.declared.nodes.Change.{Change}
-use Rattle.uvm_objection.specs.declared.nodes.ChangeKind.TheVariants.{Raise, Drop, Release, SetDrain}
-use Rattle.uvm_objection.specs.Nodes.{Node, top, new_node, is_known, held_of, due_of}
-use Rattle.uvm_objection.specs.Totals.{total, settled}
-use Rattle.uvm_objection.specs.Laws.{places, IsNew, AreUnder, IsTree, AreNodes, GrowsBy, NodesGrow}
-use Rattle.uvm_objection.specs.Changes.{nodes_changed, most_raised, IsTimely, IsSteady}
-use Rattle.uvm_objection.specs.Walks.{walked}
-use Rattle.uvm_objection.specs.Kept.{node_of, Kept, shape}
+use Rattle.uvm_objection.proofs.Common.{◌≡◌, ◌<◌, ◌≤◌, ℕ, ◌+◌, Bool, true, false, ◌||◌, ◌==◌, List, [], ◌∷◌, ◌++◌, map, Option, refl, sym, ap, ◌∙◌, subst, arith, Entry, Change, Raise, Drop, Release, SetDrain, Node, top, new_node, is_known, held_of, due_of, total, settled, places, IsNew, AreUnder, IsTree, AreNodes, GrowsBy, NodesGrow, nodes_changed, most_raised, IsTimely, IsSteady, walked, node_of, IsConsistent, shape}
 use Rattle.uvm_objection.proofs.Passed.{AddUp}
 use Rattle.uvm_objection.proofs.Trees.{Distinct, distinct_of, same_node, other_node, true_node}
 use Rattle.uvm_objection.proofs.Sums.{agree, add_up}
@@ -63,7 +54,7 @@ over_later e newer new over node none = by_test (e.node == node) refl
         let is = over node still in
         rw here at is
 
-kept_first : (e : Node) (newer : List Node) → Positive (e ∷ newer) → Over (e ∷ newer) → Kept (entries_at newer) → Kept (entries_at (e ∷ newer))
+kept_first : (e : Node) (newer : List Node) → Positive (e ∷ newer) → Over (e ∷ newer) → IsConsistent (entries_at newer) → IsConsistent (entries_at (e ∷ newer))
 kept_first e newer positive over kept = (
   ap (λ ns. total ns e.node) (sym (same_nodes (e ∷ newer))),
   λ some. let is = positive e.node some in rw (same_node e.node) at is,
@@ -71,13 +62,13 @@ kept_first e newer positive over kept = (
   kept,
 )
 
-kept_under : (known : ℕ → Bool) (nodes : List Node) → AreUnder known (places nodes) → Positive nodes → Over nodes → Kept (entries_at nodes)
+kept_under : (known : ℕ → Bool) (nodes : List Node) → AreUnder known (places nodes) → Positive nodes → Over nodes → IsConsistent (entries_at nodes)
 kept_under known [] under positive over = tt
 kept_under known (e ∷ newer) under positive over =
     let seen : ℕ → Bool = λ k. (e.node == k) || known k in
     kept_first e newer positive over (kept_under seen newer under.2 (positive_later e newer under.1 positive) (over_later e newer under.1 over))
 
-kept_at : (nodes : List Node) → AreNodes nodes → Kept (entries_at nodes)
+kept_at : (nodes : List Node) → AreNodes nodes → IsConsistent (entries_at nodes)
 kept_at [] are = tt
 kept_at (e ∷ newer) are =
     let known : ℕ → Bool = λ k. e.node == k in

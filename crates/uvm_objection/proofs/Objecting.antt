@@ -1,20 +1,5 @@
 -- What is kept goes through a change.
-use Rattle.std.proofs.Common.{◌≡◌, ◌<◌, ◌≤◌, ℕ, ◌+◌, ◌^◌, ◌⊎◌, inl, inr, Bool, true, false, ◌==◌, List, [], ◌∷◌, map, drop, nat_eq, Option, refl, sym, ap, ◌∙◌, subst, arith, if◌then◌else◌}
-use Rattle.std.specs.Option.{option_to_list}
-use Rattle.std.specs.HashMap.{get}
-use Rattle.uvm_objection.specs.declared.nodes.Entry.{Entry}
-use Rattle.uvm_objection.specs.declared.nodes.Change.{Change}
-use Rattle.uvm_objection.specs.declared.nodes.ChangeKind.{ChangeKind}
-use Rattle.uvm_objection.specs.declared.nodes.ChangeKind.TheVariants.{Raise, Drop, Release, SetDrain}
-use Rattle.uvm_objection.specs.declared.walks.Walk.{Walk}
-use Rattle.uvm_objection.specs.declared.objections.Objection.TheInside.{Inside}
-use Rattle.uvm_objection.specs.Nodes.{Node, held_of, due_of, changed_at}
-use Rattle.uvm_objection.specs.Totals.{total, settled, settled_node, drains_begun, drains_ended}
-use Rattle.uvm_objection.specs.Laws.{IsTree, AreNodes}
-use Rattle.uvm_objection.specs.Changes.{source_changed, held_changed, due_changed, drain_changed, entry_changed, node_changed, nodes_changed, most_raised, IsWithin, IsTimely, IsSteady, TellsOf}
-use Rattle.uvm_objection.specs.Walks.{walked, CanWalk}
-use Rattle.uvm_objection.specs.Kept.{node_of, Kept, Fits, IsObjection, shape}
-use Rattle.uvm_objection.specs.Places.{place_in}
+use Rattle.uvm_objection.proofs.Common.{◌≡◌, ◌<◌, ◌≤◌, ℕ, ◌+◌, ◌^◌, ◌⊎◌, inl, inr, Bool, true, false, ◌==◌, List, [], ◌∷◌, map, drop, nat_eq, Option, refl, sym, ap, ◌∙◌, subst, arith, if◌then◌else◌, option_to_list, get, Entry, Change, ChangeKind, Raise, Drop, Release, SetDrain, Walk, Inside, Node, held_of, due_of, changed_at, total, settled, settled_node, drains_begun, drains_ended, IsTree, AreNodes, source_changed, held_changed, due_changed, drain_changed, entry_changed, node_changed, nodes_changed, most_raised, IsWithin, IsTimely, IsSteady, TellsOf, walked, CanWalk, node_of, IsConsistent, Fits, IsObjection, shape, place_in}
 use Rattle.uvm_objection.proofs.Passed.{is_under, passed, when, AddUp}
 use Rattle.uvm_objection.proofs.Trees.{Differs, Distinct, distinct_of, Under, under_top, true_node}
 use Rattle.uvm_objection.proofs.Sums.{Agree, agree, first_total, add_up, kept_of}
@@ -217,7 +202,7 @@ module _ (o : Inside) (c : Change) (keeps : IsObjection o) (within : IsWithin c.
     pub kept_after : next.places ≡ o.places → IsObjection next
     kept_after same =
         let T : List (ℕ × Option ℕ) → Type 0 = IsTree in
-        let K : List Entry → Type 0 = Kept in
+        let K : List Entry → Type 0 = IsConsistent in
         let F : List Entry → Type 0 = Fits in
         record {
           tree = subst T (sym shapes) keeps.tree;

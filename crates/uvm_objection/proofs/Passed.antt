@@ -1,7 +1,5 @@
 -- What is passed up from one node to the next.
-use Rattle.std.proofs.Common.{◌≡◌, ℕ, Bool, true, false, ◌==◌, ◌+◌, ◌<◌, List, [], ◌∷◌}
-use Rattle.std.specs.Option.{option_map_or}
-use Rattle.uvm_objection.specs.declared.nodes.Entry.{Entry}
+use Rattle.uvm_objection.proofs.Common.{◌≡◌, ℕ, Bool, true, false, ◌==◌, ◌+◌, ◌<◌, List, [], ◌∷◌, option_map_or, Entry}
 
 -- a number, if so, else 0
 abbrev pub when : Bool → ℕ → ℕ

@@ -1,17 +1,5 @@
 -- A walk over some entries, the last first, that goes from each node to the place of its parent.
-use Rattle.std.proofs.Common.{◌≡◌, ◌≢◌, ◌<◌, ℕ, suc, Bool, true, false, ◌==◌, List, [], ◌∷◌, ◌++◌, length, Option, Some, None, get_or, refl, sym, ap, ◌∙◌, subst, arith, append_assoc}
-use Rattle.std.specs.Prelude.{IsTrue}
-use Rattle.std.specs.Option.{option_and_then, option_map_or}
-use Rattle.std.proofs.Math.ListN.{set}
-use Rattle.std.proofs.Math.Seq.{set-append_seam, get_or-append_seam}
-use Rattle.std.proofs.lemmas.Option.{same_Some}
-use Rattle.uvm_objection.specs.declared.nodes.Change.{Change}
-use Rattle.uvm_objection.specs.declared.nodes.Entry.{Entry}
-use Rattle.uvm_objection.specs.declared.walks.Walk.{Walk}
-use Rattle.uvm_objection.specs.Laws.{IsTree}
-use Rattle.uvm_objection.specs.Places.{place_in}
-use Rattle.uvm_objection.specs.Walks.{start_of, walked, Walked, entry_after, walk_after, is_at, CanWalk, CanStep}
-use Rattle.uvm_objection.specs.Kept.{shape}
+use Rattle.uvm_objection.proofs.Common.{◌≡◌, ◌≢◌, ◌<◌, ℕ, suc, Bool, true, false, ◌==◌, List, [], ◌∷◌, ◌++◌, length, Option, Some, None, get_or, refl, sym, ap, ◌∙◌, subst, arith, append_assoc, IsTrue, option_and_then, option_map_or, set, set-append_seam, get_or-append_seam, same_Some, Change, Entry, Walk, IsTree, place_in, start_of, walked, Walked, entry_after, walk_after, is_at, CanWalk, CanStep, shape}
 use Rattle.uvm_objection.proofs.Trees.{Differs, Distinct, distinct_of, same_node, other_node, true_node}
 use Rattle.uvm_objection.proofs.Places.{HasPlace, has_place, none_there, place_within, parent_before, top_nowhere}
 

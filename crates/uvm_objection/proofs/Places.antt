@@ -1,10 +1,5 @@
 -- Where nodes stand.
-use Rattle.std.proofs.Common.{◌≡◌, ◌≢◌, ◌<◌, ℕ, suc, Bool, true, false, cond, ◌||◌, ◌==◌, if◌then◌else◌, get_or, find, List, [], ◌∷◌, ◌++◌, length, Option, Some, None, option_map, refl, sym, ap, ◌∙◌, subst, arith}
-use Rattle.std.proofs.lemmas.Option.{same_Some}
-use Rattle.uvm_objection.specs.declared.nodes.Entry.{Entry}
-use Rattle.uvm_objection.specs.Laws.{AreUnder, IsTree}
-use Rattle.uvm_objection.specs.Places.{place_in}
-use Rattle.uvm_objection.specs.Kept.{shape}
+use Rattle.uvm_objection.proofs.Common.{◌≡◌, ◌≢◌, ◌<◌, ℕ, suc, Bool, true, false, cond, ◌||◌, ◌==◌, if◌then◌else◌, get_or, find, List, [], ◌∷◌, ◌++◌, length, Option, Some, None, option_map, refl, sym, ap, ◌∙◌, subst, arith, same_Some, Entry, AreUnder, IsTree, place_in, shape}
 use Rattle.uvm_objection.proofs.Trees.{differs_of, Differs, Distinct, same_node, other_node, true_node}
 
 -- a node that stands nowhere has no place

@@ -1,17 +1,5 @@
 -- A walk settles the totals.
-use Rattle.std.proofs.Common.{◌≡◌, ◌≢◌, ◌<◌, ◌≤◌, ℕ, zero, suc, ◌+◌, ◌-◌, ◌^◌, ◌⊎◌, inl, inr, Bool, true, false, ◌==◌, nat_lt, List, [], ◌∷◌, map, Option, Some, None, refl, sym, ap, ◌∙◌, subst, arith, if◌then◌else◌}
-use Rattle.std.proofs.lemmas.Bool.Decides.{nat_tests}
-use Rattle.std.specs.Option.{option_map_or}
-use Rattle.uvm_objection.specs.declared.nodes.Change.{Change}
-use Rattle.uvm_objection.specs.declared.nodes.ChangeKind.{ChangeKind}
-use Rattle.uvm_objection.specs.declared.nodes.ChangeKind.TheVariants.{Raise, Drop, Release, SetDrain}
-use Rattle.uvm_objection.specs.declared.nodes.Entry.{Entry}
-use Rattle.uvm_objection.specs.declared.walks.Walk.{Walk}
-use Rattle.uvm_objection.specs.Nodes.{Node}
-use Rattle.uvm_objection.specs.Totals.{total, settled, settled_node, held_after, due_after, begins}
-use Rattle.uvm_objection.specs.Changes.{source_changed, held_changed, due_changed, drain_changed, entry_changed, most_raised, IsWithin}
-use Rattle.uvm_objection.specs.Walks.{start_of, walked, entry_after, entry_next, walk_after, walk_next, entry_settled, is_at, is_at_node, CanStep, CanWalk}
-use Rattle.uvm_objection.specs.Kept.{node_of, Fits, shape}
+use Rattle.uvm_objection.proofs.Common.{◌≡◌, ◌≢◌, ◌<◌, ◌≤◌, ℕ, zero, suc, ◌+◌, ◌-◌, ◌^◌, ◌⊎◌, inl, inr, Bool, true, false, ◌==◌, nat_lt, List, [], ◌∷◌, map, Option, Some, None, refl, sym, ap, ◌∙◌, subst, arith, if◌then◌else◌, nat_tests, option_map_or, Change, ChangeKind, Raise, Drop, Release, SetDrain, Entry, Walk, Node, total, settled, settled_node, held_after, due_after, begins, source_changed, held_changed, due_changed, drain_changed, entry_changed, most_raised, IsWithin, start_of, walked, entry_after, entry_next, walk_after, walk_next, entry_settled, is_at, is_at_node, CanStep, CanWalk, node_of, Fits, shape}
 use Rattle.uvm_objection.proofs.Passed.{passed, when, AddUp}
 use Rattle.uvm_objection.proofs.Trees.{Differs, Distinct, Under, other_node, true_node}
 use Rattle.uvm_objection.proofs.Sums.{agree, first_total}

@@ -1,10 +1,5 @@
 -- No call moves a node.
-use Rattle.std.proofs.Common.{◌≡◌, ℕ, Bool, true, false, ◌==◌, ◌+◌, ◌-◌, ◌||◌, List, [], ◌∷◌, Option, refl, ap, ◌∙◌, sym, if◌then◌else◌}
-use Rattle.std.specs.List.{list_any}
-use Rattle.std.proofs.lemmas.List.{map-append}
-use Rattle.uvm_objection.specs.Nodes.{Node, new_node, is_known, changed_at}
-use Rattle.uvm_objection.specs.Totals.{settled}
-use Rattle.uvm_objection.specs.Laws.{places, PlacesStay}
+use Rattle.uvm_objection.proofs.Common.{◌≡◌, ℕ, Bool, true, false, ◌==◌, ◌+◌, ◌-◌, ◌||◌, List, [], ◌∷◌, Option, refl, ap, ◌∙◌, sym, if◌then◌else◌, list_any, map-append, Node, new_node, is_known, changed_at, settled, places, PlacesStay}
 
 abbrev place_of : Node → ℕ × Option ℕ
 place_of n = (n.node, n.parent)

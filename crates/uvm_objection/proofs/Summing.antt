@@ -1,11 +1,5 @@
 -- The total of a node is its source with what its children pass up.
-use Rattle.std.proofs.Common.{◌≡◌, ℕ, ◌+◌, Bool, true, false, ◌||◌, ◌==◌, List, [], ◌∷◌, filter, Option, Some, None, refl, sym, ap, ◌∙◌, subst}
-use Rattle.std.specs.List.{sum_by}
-use Rattle.std.specs.Option.{option_map_or}
-use Rattle.std.proofs.lemmas.List.Sums.{sum_by-cons}
-use Rattle.uvm_objection.specs.Nodes.{Node, is_known, source_of}
-use Rattle.uvm_objection.specs.Totals.{total, is_child}
-use Rattle.uvm_objection.specs.Laws.{places, IsNew, AreUnder, TotalIsSum, PositiveTotalHoldsNothing}
+use Rattle.uvm_objection.proofs.Common.{◌≡◌, ℕ, ◌+◌, Bool, true, false, ◌||◌, ◌==◌, List, [], ◌∷◌, filter, Option, Some, None, refl, sym, ap, ◌∙◌, subst, sum_by, option_map_or, sum_by-cons, Node, is_known, source_of, total, is_child, places, IsNew, AreUnder, TotalIsSum, PositiveTotalHoldsNothing}
 use Rattle.uvm_objection.proofs.Trees.{same_node, other_node, true_node}
 
 -- what the children of a node pass up, by the totals of some nodes

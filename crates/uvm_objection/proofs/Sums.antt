@@ -1,11 +1,5 @@
 -- Totals from scratch, and those that are kept.
-use Rattle.std.proofs.Common.{◌≡◌, ◌≢◌, ℕ, ◌+◌, Bool, true, false, List, [], ◌∷◌, map, filter, refl, sym, ap, ◌∙◌, arith}
-use Rattle.std.proofs.lemmas.List.Sums.{sum_by-cons}
-use Rattle.std.specs.List.{sum_by}
-use Rattle.uvm_objection.specs.declared.nodes.Entry.{Entry}
-use Rattle.uvm_objection.specs.Nodes.{Node}
-use Rattle.uvm_objection.specs.Totals.{total, is_child}
-use Rattle.uvm_objection.specs.Kept.{node_of, Kept}
+use Rattle.uvm_objection.proofs.Common.{◌≡◌, ◌≢◌, ℕ, ◌+◌, Bool, true, false, List, [], ◌∷◌, map, filter, refl, sym, ap, ◌∙◌, arith, sum_by-cons, sum_by, Entry, Node, total, is_child, node_of, IsConsistent}
 use Rattle.uvm_objection.proofs.Passed.{is_under, passed, AddUp}
 use Rattle.uvm_objection.proofs.Trees.{Differs, Distinct, same_node, other_node}
 
@@ -44,12 +38,12 @@ agree (e ∷ newer) apart kept =
     (first_total e newer rest ∙ sym kept.0, agree_later (node_of e) (map node_of newer) newer apart.0 rest)
 
 -- the totals that are kept add up, and totals that add up are those from scratch
-pub add_up : (es : List Entry) → Distinct es → Kept es → AddUp es
+pub add_up : (es : List Entry) → Distinct es → IsConsistent es → AddUp es
 add_up [] apart kept = tt
 add_up (e ∷ newer) apart kept =
     let rest = add_up newer apart.1 kept.3 in
     (kept.0 ∙ first_total e newer (agree newer apart.1 rest), kept.1, kept.2, rest)
 
-pub kept_of : (es : List Entry) → Distinct es → AddUp es → Kept es
+pub kept_of : (es : List Entry) → Distinct es → AddUp es → IsConsistent es
 kept_of [] apart sums = tt
 kept_of (e ∷ newer) apart sums = (sums.0 ∙ sym (first_total e newer (agree newer apart.1 sums.3)), sums.1, sums.2, kept_of newer apart.1 sums.3)

@@ -1,10 +1,5 @@
 -- Nodes that stand once each, and no total of which is over that of the top.
-use Rattle.std.proofs.Common.{◌≡◌, ◌≢◌, ◌≤◌, ℕ, ◌+◌, Bool, true, false, ◌||◌, ◌==◌, List, [], ◌∷◌, Option, Some, None, refl, subst, arith}
-use Rattle.std.specs.Option.{option_map_or}
-use Rattle.std.proofs.lemmas.Bool.Decides.{nat_tests}
-use Rattle.uvm_objection.specs.declared.nodes.Entry.{Entry}
-use Rattle.uvm_objection.specs.Laws.{IsNew, AreUnder, IsTree}
-use Rattle.uvm_objection.specs.Kept.{shape}
+use Rattle.uvm_objection.proofs.Common.{◌≡◌, ◌≢◌, ◌≤◌, ℕ, ◌+◌, Bool, true, false, ◌||◌, ◌==◌, List, [], ◌∷◌, Option, Some, None, refl, subst, arith, option_map_or, nat_tests, Entry, IsNew, AreUnder, IsTree, shape}
 use Rattle.uvm_objection.proofs.Passed.{is_under, passed, when, AddUp}
 
 -- a node is none of these

@@ -14,7 +14,7 @@ source_changed (Drop count) source = source - count
 source_changed Release source = source
 source_changed (SetDrain drain) source = source
 
--- the count that a node holds back, after a change of the node: a release sets it to 0
+-- the delayed count of a node, after a change of the node: a release sets it to 0
 abbrev pub held_changed : ChangeKind → ℕ → ℕ
 held_changed (Raise count) held = held
 held_changed (Drop count) held = held
@@ -35,7 +35,7 @@ drain_changed (Drop count) drain = drain
 drain_changed Release drain = drain
 drain_changed (SetDrain time) drain = time
 
--- an entry with the change, where it is of its node
+-- an entry after the change if the change is of its node, otherwise the same entry
 abbrev pub entry_changed : Change → Entry → Entry
 entry_changed c e = record e {
   source = if c.node == e.node then source_changed c.kind e.source else e.source;
@@ -62,29 +62,29 @@ most_raised (Drop count) = 0
 most_raised Release = 0
 most_raised (SetDrain drain) = 0
 
--- what a change asks for, by the total of the top
+-- the limit of a change: the root's total after a raise is at most 10^18, and a drain time is at most 10^15 ticks
 abbrev pub IsWithin : ChangeKind → ℕ → Type 0
 IsWithin (Raise count) total = total + count ≤ 10 ^ 18
 IsWithin (Drop count) total = Unit {0}
 IsWithin Release total = Unit {0}
 IsWithin (SetDrain drain) total = drain ≤ 10 ^ 15
 
--- a change at a time may count as one at another: a raise begins no drain
+-- whether a change at `time` may count as one at `now`: always for a raise, which begins no drain, otherwise only if the times are equal
 abbrev pub IsTimely : ChangeKind → ℕ → ℕ → Type 0
 IsTimely (Raise count) time now = Unit {0}
 IsTimely (Drop count) time now = now ≡ time
 IsTimely Release time now = now ≡ time
 IsTimely (SetDrain drain) time now = now ≡ time
 
--- it changes no total
+-- the change affects no total: a raise or drop of 0, or a new drain time
 abbrev pub IsSteady : ChangeKind → Type 0
 IsSteady (Raise count) = count ≡ 0
 IsSteady (Drop count) = count ≡ 0
 IsSteady Release = ⊥
 IsSteady (SetDrain drain) = Unit {0}
 
--- which drains the walk of a change at a node tells of: a raise begins none, a drop ends none, a release ends that of its node,
--- where this held something, and a drain time does neither
+-- the drains that the walk of a change reports: a raise begins none; a drop ends none; a release ends that of its node if that has a
+-- delayed count; a new drain time begins and ends none
 abbrev pub TellsOf : ChangeKind → ℕ → ℕ → Walk → Type 0
 TellsOf (Raise count) node held walk = walk.began ≡ None
 TellsOf (Drop count) node held walk = walk.ended ≡ None

@@ -1,4 +1,4 @@
--- What is told of a drop that is refused.
+-- The text of the error of a drop.
 use Rattle.std.specs.Prelude.{ℕ, List, codes}
 
 -- the text of the only error of a drop

@@ -2,8 +2,8 @@ pub mod Faults
 pub mod Laws
 pub mod Nodes
 pub mod Totals
--- what the bodies go by, and no caller cites
+-- definitions that only the bodies use, and no caller cites
 pub mod Changes
-pub mod Kept
+pub mod Representation
 pub mod Places
 pub mod Walks

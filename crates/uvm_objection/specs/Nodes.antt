@@ -1,10 +1,10 @@
--- The nodes of a tree with what is raised at each, in the order in which they were added: a parent stands before its children.
+-- The nodes of a tree with their objection counts, in the order in which they were added: a parent precedes its children.
 use Rattle.std.specs.Prelude.{ℕ, Bool, ◌==◌, ◌+◌, ◌-◌, List, length, map, find, Option, Some, None, if◌then◌else◌}
 use Rattle.std.specs.List.{list_any}
 use Rattle.std.specs.Option.{option_map_or}
 
--- a node: its parent, which the top alone has not, the count raised at it, its drain time, the count that it holds back, and
--- when its drain is due, 0 where it holds nothing back
+-- a node: its parent (absent for the root), the count raised at it, its drain time, its delayed count, and its due time (0 without a
+-- delayed count); times are in ticks
 pub record Node : Type 0 where
   pub node : ℕ
   pub parent : Option ℕ
@@ -13,16 +13,16 @@ pub record Node : Type 0 where
   pub held : ℕ
   pub due : ℕ
 
--- what contracts see: the nodes, and for how many more there is room
+-- an objection as contracts see it: the nodes, and the number of further nodes for which capacity is reserved
 pub record ObjectionValue : Type 0 where
   pub nodes : List Node
   pub spare : ℕ
 
--- how many nodes fit before memory is taken
+-- how many nodes an objection can have before it allocates memory
 abbrev pub capacity_of : ObjectionValue → ℕ
 capacity_of objection = length objection.nodes + objection.spare
 
--- the top, at which nothing is raised
+-- the root, at which nothing is raised
 abbrev pub top : Node
 top = record { node = 0; parent = None; source = 0; drain = 0; held = 0; due = 0 }
 
@@ -30,7 +30,7 @@ top = record { node = 0; parent = None; source = 0; drain = 0; held = 0; due = 0
 abbrev pub new_node : ℕ → ℕ → Node
 new_node node parent = record { node = node; parent = Some parent; source = 0; drain = 0; held = 0; due = 0 }
 
--- whether a node is one of them
+-- whether a node is one of these nodes
 abbrev pub is_known : ℕ → List Node → Bool
 is_known node nodes = list_any (λ e. e.node == node) nodes
 
@@ -42,11 +42,11 @@ source_of node nodes = option_map_or (λ e. e.source) (find (λ e. e.node == nod
 abbrev pub drain_of : ℕ → List Node → ℕ
 drain_of node nodes = option_map_or (λ e. e.drain) (find (λ e. e.node == node) nodes) 0
 
--- the count that a node holds back during its drain time, 0 if there is no such node
+-- the delayed count of a node, 0 if there is no such node
 abbrev pub held_of : ℕ → List Node → ℕ
 held_of node nodes = option_map_or (λ e. e.held) (find (λ e. e.node == node) nodes) 0
 
--- the time at which a node's drain is due, 0 if there is no such node
+-- the time in ticks at which a node's drain is due, 0 if there is no such node
 abbrev pub due_of : ℕ → List Node → ℕ
 due_of node nodes = option_map_or (λ e. e.due) (find (λ e. e.node == node) nodes) 0
 
@@ -62,7 +62,7 @@ raised node count nodes = changed_at node (λ e. record e { source = e.source + 
 abbrev pub dropped : ℕ → ℕ → List Node → List Node
 dropped node count nodes = changed_at node (λ e. record e { source = e.source - count }) nodes
 
--- the nodes after one of them no longer holds anything back
+-- the nodes after the delayed count of one of them is removed
 abbrev pub released : ℕ → List Node → List Node
 released node nodes = changed_at node (λ e. record e { held = 0; due = 0 }) nodes
 

@@ -1,4 +1,4 @@
--- The walk by which a change goes up.
+-- The propagation of a change to the nodes above it.
 use Rattle.std.specs.Prelude.{ℕ, Bool, false, ◌&&◌, ◌==◌, ◌+◌, ◌-◌, ◌*◌, ◌^◌, ◌<◌, ◌≤◌, nat_lt, List, [], ◌∷◌, IsTrue, Some, None, if◌then◌else◌}
 use Rattle.std.specs.Option.{option_map_or}
 use Rattle.uvm_objection.specs.declared.nodes.Change.{Change}
@@ -7,27 +7,27 @@ use Rattle.uvm_objection.specs.declared.walks.Walk.{Walk}
 use Rattle.uvm_objection.specs.Changes.{entry_changed}
 use Rattle.uvm_objection.specs.Totals.{held_after, due_after}
 
--- an entry with another total
+-- an entry with a new total at a time, and the delayed count and due time that follow
 abbrev pub entry_settled : ℕ → ℕ → Entry → Entry
 entry_settled time after e = record e { total = after; held = held_after e.total after e.drain e.held; due = due_after time e.total after e.drain e.due }
 
--- the walk of a change before it comes to a node
+-- the walk of a change before it visits a node
 abbrev pub start_of : Change → Walk
 start_of c = record { at = Some c.node; before = 0; after = 0; began = None; ended = None }
 
--- whether the walk comes to a node next
+-- whether the walk visits a node next
 abbrev pub is_at_node : Walk → ℕ → Bool
 is_at_node w node = option_map_or (λ at. at == node) w.at false
 
--- whether the walk comes to an entry next
+-- whether the walk visits an entry next
 abbrev pub is_at : Walk → Entry → Bool
 is_at w e = is_at_node w e.node
 
--- the entry to which the walk comes, after it
+-- the entry that the walk visits, after the visit
 abbrev pub entry_next : Change → Walk → Entry → Entry
 entry_next c w e = let f = entry_changed c e in entry_settled c.time (e.total - e.source - w.before + f.source + w.after) f
 
--- the walk after an entry to which it came, and which is now another
+-- the walk after a visit that changed entry `e` to entry `f`
 abbrev pub walk_next : Walk → Entry → Entry → Walk
 walk_next w e f = record {
   at = e.parent;
@@ -37,15 +37,15 @@ walk_next w e f = record {
   ended = if nat_lt 0 e.held && (f.held == 0) then Some e.node else w.ended;
 }
 
--- an entry after the walk has passed it: changed if the walk reaches it, otherwise the same
+-- an entry after the walk has passed it: changed if the walk visits it, otherwise the same
 abbrev pub entry_after : Change → Walk → Entry → Entry
 entry_after c w e = if is_at w e then entry_next c w e else e
 
--- the walk after it has passed an entry: gone on to its parent if the walk reaches it, otherwise the same
+-- the walk after it has passed an entry: moved to its parent if the walk visits it, otherwise the same
 abbrev pub walk_after : Change → Walk → Entry → Walk
 walk_after c w e = if is_at w e then walk_next w e (entry_next c w e) else w
 
--- the entries and the walk after it passed some entries, the last first
+-- the entries and the walk after it has passed them, the last entry first
 pub record Walked : Type 0 where
   pub entries : List Entry
   pub walk : Walk
@@ -56,7 +56,7 @@ walked c [] = record { entries = []; walk = start_of c }
 walked c (e ∷ newer) =
     let below = walked c newer in record { entries = entry_after c below.walk e ∷ below.entries; walk = walk_after c below.walk e }
 
--- the numbers of a step fit
+-- the numbers of one visit stay within their limits
 pub record CanStep (c : Change) (w : Walk) (e : Entry) : Type 0 where
   pub before : e.source + w.before ≤ e.total
   pub total : e.total ≤ 10 ^ 18
@@ -66,7 +66,7 @@ pub record CanStep (c : Change) (w : Walk) (e : Entry) : Type 0 where
   pub due : c.time + (entry_changed c e).drain < 2 ^ 64
   pub next : (entry_next c w e).total + (entry_next c w e).held < 2 ^ 64
 
--- those of each step
+-- the numbers of each visit of the walk stay within their limits
 abbrev pub CanWalk : Change → List Entry → Type 0
 CanWalk c [] = Unit {0}
 CanWalk c (e ∷ newer) = CanWalk c newer × (IsTrue (is_at (walked c newer).walk e) → CanStep c (walked c newer).walk e)

@@ -1,9 +1,9 @@
-//! Why a count is not dropped.
+//! The error of a drop.
 
 use std::error::Error;
 use std::fmt;
 
-/// More was to be dropped at a node than is raised there. A drop that is refused changes nothing.
+/// The error that a drop exceeds the count raised at its node. It changes nothing.
 #[derive(Clone, Copy, Debug, PartialEq, Eq)]
 pub struct BelowZero;
 

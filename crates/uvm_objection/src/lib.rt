@@ -1,4 +1,4 @@
-//! Objections: who keeps a phase from ending, and the drains that hold back what has fallen (IEEE 1800.2-2020, Clause 10.5).
+//! Objections: the counts that keep a phase from ending, and the drain times that delay their fall (IEEE 1800.2-2020, Clause 10.5).
 #![tactic(auto)]
 
 mod faults;

@@ -1,4 +1,4 @@
-//! What is kept of a node.
+//! The stored data of a node, and its changes.
 
 ghost use Rattle.std.specs.Prelude.{◌≡◌, ◌+◌, ◌<◌, ◌^◌};
 ghost use Rattle.uvm_objection.specs.Changes.{entry_changed};
@@ -6,7 +6,7 @@ ghost use Rattle.uvm_objection.specs.Walks.{entry_settled};
 
 use uvm_tree::NodeId;
 
-// What may change at a node from outside.
+// The changes that a caller can make at a node.
 #[derive(Clone, Copy)]
 pub(crate) enum ChangeKind {
     Raise(u16),
@@ -23,8 +23,9 @@ pub(crate) struct Change {
     pub time: u64,
 }
 
-// A node: its parent, which the top alone has not, the count raised at it, its drain time, the count that it holds back,
-// when its drain is due, which is 0 where it holds nothing, and its total.
+// The data of a node: its parent (absent for the root), the count raised at it, its drain time, its delayed count, its due time, and its
+// total. The delayed count is the old total, while the drain time delays its fall. The due time is the time at which the drain ends, 0 if
+// no count is delayed. Times are in ticks.
 #[derive(Clone, Copy)]
 pub(crate) struct Entry {
     pub node: NodeId,
@@ -37,7 +38,7 @@ pub(crate) struct Entry {
 }
 
 impl Entry {
-    // A node at which nothing was raised yet.
+    // Creates a node at which nothing has been raised.
     pub(crate) fn new(node: NodeId, parent: Option<NodeId>) -> Entry
         ensures { result ≡ record { node = node; parent = parent; source = 0; drain = 0; held = 0; due = 0; total = 0 } }
     {
@@ -52,7 +53,7 @@ impl Entry {
         }
     }
 
-    // Gives it a total, and with it what is held back.
+    // Sets the total, and with it the delayed count and the time at which the drain is due.
     pub(crate) fn settle(&mut self, total: u64, time: u64)
         requires { time + self.old.drain < 2 ^ 64 }
         ensures { self.new ≡ entry_settled time total self.old }
@@ -68,7 +69,7 @@ impl Entry {
         }
     }
 
-    // Makes the change, where it is of this node.
+    // Makes the change if it is of this node.
     pub(crate) fn change(&mut self, change: &Change)
         requires { self.old.source < 2 ^ 63 }
         ensures { self.new ≡ entry_changed change.now self.old }

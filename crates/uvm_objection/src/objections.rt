@@ -3,7 +3,7 @@
 ghost use Rattle.std.specs.Prelude.{◌≡◌, ◌+◌, ◌<◌, ◌≤◌, ◌^◌, ◌++◌, ◌∷◌, [], ◌==◌, ℕ, false, find, IsTrue, IsOk, IfOk, OnOk, OnErr, Some};
 ghost use Rattle.std.specs.Option.{option_to_list};
 ghost use Rattle.uvm_objection.specs.Changes.{nodes_changed, IsWithin, IsTimely, IsSteady, TellsOf};
-ghost use Rattle.uvm_objection.specs.Kept.{node_of};
+ghost use Rattle.uvm_objection.specs.Representation.{node_of};
 ghost use Rattle.uvm_objection.specs.Nodes.{capacity_of, top, new_node, is_known, source_of, held_of, due_of, raised, dropped, released, with_drain};
 ghost use Rattle.uvm_objection.specs.Totals.{total, settled, drains_begun, drains_ended};
 ghost use Rattle.uvm_objection.specs.Laws.{AreNodes};
@@ -16,36 +16,35 @@ use std::collections::HashMap;
 use std::marker::Model;
 use uvm_tree::NodeId;
 
-/// A drain that began: whose, and when it is due.
+/// A drain that began: its node, and the time at which it is due.
 #[derive(Clone, Copy, PartialEq, Eq)]
 pub struct Due {
-    /// The node that holds its count back.
+    /// The node whose count is delayed.
     pub node: NodeId,
-    /// When `Objection::drained` is to be called for the node, in ticks of simulated time, unless a raise ends the drain before.
+    /// The time at which `Objection::drained` is to be called for the node, in ticks of simulated time. A raise can end the drain before.
     pub at: u64,
 }
 
-/// The objections to the end of a phase, at the nodes of a tree (IEEE 1800.2-2020, Clause 10.5). Each node has a source count,
-/// raised and dropped at it, and a total, which is its source with the totals of its children and what these hold back. A
-/// total that falls to zero under a drain time is held back, so that nothing above it falls yet, until `drained` lets it go or
-/// a raise at or below the node ends the drain. A node is known once it was added, and the top always.
+/// The objections to the end of a phase, at the nodes of a tree (IEEE 1800.2-2020, Clause 10.5). Each node has a source count, which is
+/// raised and dropped at it, and a total. The total is the source with the totals and the delayed counts of the node's children. If the
+/// total of a node with a drain time falls to zero, the old total is its delayed count: no total above it falls yet. The drain ends when
+/// `drained` is called for the node, or earlier with a raise at or below it. The root is always known, any other node once it is added.
 ///
-/// Contracts see the nodes in the order in which they were added, and for how many more there is room. A table leads
-/// to the place of each node, and a change goes from a node to its parent: a call looks at a node and at those above it, and at
-/// no other. None but `add`, `reserve` and `copy` takes memory.
+/// Contracts see the nodes in the order in which they were added, and the number of further nodes for which capacity is reserved. A change
+/// visits its node and the nodes above it, and no other. Only `add`, `reserve` and `copy` allocate memory.
 #[derive(Drop)]
 pub struct Objection {
     top: Entry,
-    // The nodes besides the top, in the order in which they were added.
+    // The nodes except the root, in the order in which they were added.
     entries: Vec<Entry>,
-    // Where each of them stands.
+    // The index of each of them in `entries`.
     places: HashMap<NodeId, usize>,
 }
 
 impl Model for Objection {
     ghost use Rattle.std.specs.Prelude.{◌∷◌, map};
     ghost use Rattle.uvm_objection.specs.Nodes.{ObjectionValue};
-    ghost use Rattle.uvm_objection.specs.Kept.{node_of, room_in, IsObjection};
+    ghost use Rattle.uvm_objection.specs.Representation.{node_of, room_in, IsObjection};
 
     ghost Value = { ObjectionValue };
 
@@ -55,7 +54,7 @@ impl Model for Objection {
 }
 
 impl Objection {
-    /// The top alone, at which nothing was raised. Takes no memory.
+    /// Creates an objection that has only the root, at which nothing is raised. Allocates no memory.
     pub fn new(alloc: Global) -> Objection
         ensures { result.nodes ≡ top ∷ [] }
     {
@@ -66,8 +65,8 @@ impl Objection {
         }
     }
 
-    /// Makes room for a node: the next `add` then takes no memory. Errors: out of memory, which changes no node, and does
-    /// not come where there is room. No room is given up.
+    /// Reserves capacity for a node: the next `add` then allocates no memory. Changes no node. Errors: out of memory, only if no capacity
+    /// is reserved. Never reduces the capacity.
     pub fn reserve(&mut self) -> Result<(), AllocError>
         ensures nodes { self.new.nodes ≡ self.old.nodes }
         ensures spare { OnOk result (0 < self.new.spare) }
@@ -78,8 +77,8 @@ impl Objection {
         self.places.reserve(1)
     }
 
-    /// Adds a node that is not known, under a parent that is: nothing was raised at it, and its drain time is 0. Errors:
-    /// out of memory, which adds nothing, and does not come where there is room. No room is given up, also where it fails.
+    /// Adds an unknown node under a known parent. Nothing is raised at it, and its drain time is 0. Errors: out of memory, only if no
+    /// capacity is reserved. An error adds nothing. The capacity is never reduced, also not by an error.
     pub fn add(&mut self, node: NodeId, parent: NodeId) -> Result<(), AllocError>
         requires unknown { is_known node self.old.nodes ≡ false }
         requires parent { IsTrue (is_known parent self.old.nodes) }
@@ -96,7 +95,7 @@ impl Objection {
         Ok(())
     }
 
-    /// Makes another objection with the same nodes, and maybe less room. Errors: out of memory.
+    /// Creates a copy with the same nodes, possibly with less reserved capacity. Errors: out of memory.
     pub fn copy(&self) -> Result<Objection, AllocError>
         ensures { IfOk result (λ copied. copied.nodes ≡ self.now.nodes) }
     {
@@ -107,8 +106,8 @@ impl Objection {
         })
     }
 
-    /// Sets the drain time of a known node, in ticks, at most 10^15 (the standard's `set_drain_time`). A drain that has begun
-    /// stays due when it was; none begins, and none ends.
+    /// Sets the drain time of a known node, in ticks, at most 10^15 (`set_drain_time` in the standard). A drain that has already begun
+    /// stays due at the same time. No drain begins or ends.
     pub fn set_drain(&mut self, node: NodeId, drain: u64)
         requires known { IsTrue (is_known node self.old.nodes) }
         requires limit { drain ≤ 10 ^ 15 }
@@ -120,9 +119,9 @@ impl Objection {
         let _ = self.pass_up(node, ChangeKind::SetDrain(drain), 0);
     }
 
-    /// Raises a count at a known node (`raise_objection`), and answers the node whose drain this ended, if it ended one: then
-    /// only the difference to what was held goes up. It begins no drain, so that its time does not matter. A count of zero
-    /// changes nothing. The total of the top may come to 10^18 at most.
+    /// Raises a count at a known node (`raise_objection`) and returns the node whose drain this ended, if it ended one. In that case only
+    /// the difference from the delayed count propagates to the parent. A raise begins no drain, so its time does not matter. A count of
+    /// zero changes nothing. Requires that the root's total plus `count` is at most 10^18.
     pub fn raise(&mut self, node: NodeId, count: u16) -> Option<NodeId>
         requires known { IsTrue (is_known node self.old.nodes) }
         requires limit { total self.old.nodes 0 + count ≤ 10 ^ 18 }
@@ -135,9 +134,9 @@ impl Objection {
         self.pass_up(node, ChangeKind::Raise(count), 0).ended
     }
 
-    /// Drops a count at a known node at a time of at most 10^18 ticks (`drop_objection`), and answers the drain that this began,
-    /// if it began one; it ends none. A count of zero changes nothing. `BelowZero` comes where the count is above the source of
-    /// the node; then nothing has changed.
+    /// Drops a count at a known node (`drop_objection`) and returns the drain that this began, if it began one. `now` is at most 10^18
+    /// ticks. A drop ends no drain. A count of zero changes nothing. Errors: `BelowZero` if `count` is above the source of the node. An
+    /// error changes nothing.
     pub fn drop(&mut self, node: NodeId, count: u16, now: u64) -> Result<Option<Due>, BelowZero>
         requires known { IsTrue (is_known node self.old.nodes) }
         requires limit { now ≤ 10 ^ 18 }
@@ -156,9 +155,9 @@ impl Objection {
         Ok(self.pass_up(node, ChangeKind::Drop(count), now).began)
     }
 
-    /// Ends the drain of a known node, and no other: what it holds is passed up (the standard's `all_dropped`). The node holds
-    /// something, and its drain is due at a time of at most 10^18 ticks. Answers the drain that this began above, if it began
-    /// one; its time counts from the moment at which the first was due.
+    /// Ends the drain of a known node and no other: the fall of its total propagates to the parent (`all_dropped` in the standard).
+    /// Requires that the node has a delayed count, and that its drain is due at a time of at most 10^18 ticks. Returns the drain that this
+    /// began at a node above, if it began one. That drain time counts from the time at which the first drain was due.
     pub fn drained(&mut self, node: NodeId) -> Option<Due>
         requires known { IsTrue (is_known node self.old.nodes) }
         requires held { 0 < held_of node self.old.nodes }
@@ -172,8 +171,8 @@ impl Objection {
         self.pass_up(node, ChangeKind::Release, due).began
     }
 
-    /// The total of a known node (`get_objection_total`): its source, and of each of its children the total and what it holds
-    /// back. A node with a positive total holds nothing.
+    /// Returns the total of a known node (`get_objection_total`): its source, and the total and the delayed count of each of its children.
+    /// A node with a positive total has no delayed count.
     pub fn total(&self, node: NodeId) -> u64
         requires { IsTrue (is_known node self.now.nodes) }
         ensures value { result ≡ total self.now.nodes node }
@@ -182,8 +181,8 @@ impl Objection {
         self.entry(node).total
     }
 
-    /// The source of a known node (`get_objection_count`): the sum of the accepted raises less the sum of the accepted drops at
-    /// it.
+    /// Returns the source of a known node (`get_objection_count`): the sum of the accepted raises at it, less the sum of the accepted
+    /// drops.
     pub fn source(&self, node: NodeId) -> u64
         requires { IsTrue (is_known node self.now.nodes) }
         ensures { result ≡ source_of node self.now.nodes }
@@ -191,7 +190,7 @@ impl Objection {
         self.entry(node).source
     }
 
-    /// The count that a known node holds back while it drains, and 0 where it does not: its total before it fell to zero.
+    /// Returns the delayed count of a known node: its total before it fell to zero, while its drain lasts, and otherwise 0.
     pub fn held(&self, node: NodeId) -> u64
         requires { IsTrue (is_known node self.now.nodes) }
         ensures { result ≡ held_of node self.now.nodes }
@@ -199,7 +198,7 @@ impl Objection {
         self.entry(node).held
     }
 
-    // Changes a node at a time, and passes up what this changes above it.
+    // Makes a change at a node at a time in ticks, and propagates its effect to the nodes above.
     fn pass_up(&mut self, node: NodeId, kind: ChangeKind, time: u64) -> Walk
         requires within { IsWithin kind (total self.old.nodes 0) }
         requires time { time ≤ 10 ^ 18 }
@@ -214,7 +213,7 @@ impl Objection {
         Walk::over(&mut self.top, &mut self.entries, &self.places, &change)
     }
 
-    // What is kept of a node.
+    // Returns the stored data of a node.
     pub(crate) fn entry(&self, node: NodeId) -> Entry
         requires { IsTrue (is_known node self.now.nodes) }
         ensures node { find (λ e. e.node == node) self.now.nodes ≡ Some (node_of result) }

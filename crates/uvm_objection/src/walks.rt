@@ -1,11 +1,11 @@
-//! The walk by which a change goes up.
+//! The propagation of a change to the nodes above it.
 
 ghost use Rattle.std.specs.Prelude.{◌≡◌, ◌∷◌, IsTrue, nat_eq, vec_capacity, vec_len};
 ghost use Rattle.std.specs.HashMap.{get};
 ghost use Rattle.std.specs.Option.{option_and_then};
 ghost use Rattle.uvm_objection.specs.Laws.{IsTree};
 ghost use Rattle.uvm_objection.specs.Places.{ArePlaced};
-ghost use Rattle.uvm_objection.specs.Kept.{shape};
+ghost use Rattle.uvm_objection.specs.Representation.{shape};
 ghost use Rattle.uvm_objection.specs.Walks.{is_at, entry_after, walk_after, CanStep, CanWalk, walked};
 
 use crate::nodes::{Change, Entry};
@@ -13,8 +13,8 @@ use crate::objections::Due;
 use std::collections::HashMap;
 use uvm_tree::NodeId;
 
-// A walk from a node to its parent, and so up to the top: the node that it comes to next, if the change goes up; what a child
-// had passed up to that node, and what it passes up now; and the drains that began and ended.
+// A walk from a node to its parent, and so on up to the root. It has the node that it visits next, if any; the count that a child
+// contributed to that node before the change, and the count that it contributes now; and the drains that began and ended.
 #[derive(Clone, Copy)]
 pub(crate) struct Walk {
     pub at: Option<NodeId>,
@@ -25,8 +25,8 @@ pub(crate) struct Walk {
 }
 
 impl Walk {
-    // Makes a change at one of the nodes, and passes up what this changes above it. It goes from each node to the place of its
-    // parent, which stands before it, and looks at no other.
+    // Makes a change at one of the nodes and propagates its effect upward. The walk goes from the index of each node to the index of its
+    // parent, which is smaller, and visits no other node.
     pub(crate) fn over(
         top: &mut Entry,
         entries: &mut Vec<Entry>,
@@ -51,7 +51,7 @@ impl Walk {
         walk
     }
 
-    // The walk of a change at a node, before it comes to one.
+    // Creates the walk of a change at `node`, before it visits a node.
     fn start(node: NodeId) -> Walk
         ensures { result ≡ record { at = Some node; before = 0; after = 0; began = None; ended = None } }
     {
@@ -64,14 +64,14 @@ impl Walk {
         }
     }
 
-    // Where the node stands to which it comes next, if it comes to one besides the top.
+    // Returns the index of the node that the walk visits next, if that is a node other than the root.
     fn place(&self, places: &HashMap<NodeId, usize>) -> Option<usize>
         ensures { result ≡ option_and_then (get nat_eq places.now) self.now.at }
     {
         places.get(&self.at?).copied()
     }
 
-    // Passes a node. Where it is the one, its total changes, with it what it holds back, and so what it passes up.
+    // Visits a node. If it is the next one, its total changes, then its delayed count, and so the count that it contributes to its parent.
     fn step(&mut self, change: &Change, entry: &mut Entry)
         requires { IsTrue (is_at self.old entry.old) → CanStep change.now self.old entry.old }
         ensures entry { entry.new ≡ entry_after change.now self.old entry.old }
@@ -98,7 +98,7 @@ impl Walk {
         self.after = entry.total + entry.held;
     }
 
-    // Whether this is the node to which it comes next.
+    // Returns whether this is the node that the walk visits next.
     fn is_at(&self, entry: &Entry) -> bool
         ensures { result ≡ is_at self.now entry.now }
     {

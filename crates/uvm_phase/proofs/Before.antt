@@ -1,8 +1,5 @@
 -- Which of two calls comes due before the other.
-use Rattle.std.proofs.Common.{◌≡◌, ◌≤◌, ℕ, Bool, true, false, ◌&&◌, ◌||◌, ltb, eqb, arith, refl}
-use Rattle.std.proofs.lemmas.Bool.Decides.{nat_tests}
-use Rattle.uvm_phase.specs.declared.agendas.Due.{Due}
-use Rattle.uvm_phase.specs.Dues.{is_due_before}
+use Rattle.uvm_phase.proofs.Common.{◌≡◌, ◌≤◌, ℕ, Bool, true, false, ◌&&◌, ◌||◌, ltb, eqb, arith, refl, nat_tests, Due, is_due_before}
 
 -- one test after another: what comes first, where it is equal what comes second
 abbrev lex : (m n : ℕ) → Bool → Bool

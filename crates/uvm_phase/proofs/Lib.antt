@@ -1,4 +1,5 @@
 pub mod Before
+mod Common
 pub mod Ordered
 pub mod Owning
 pub mod Places

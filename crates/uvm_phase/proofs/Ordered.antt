@@ -1,13 +1,5 @@
 -- What stays of a list in the order in which its calls come due. The lemmas speak of lists alone, for whoever keeps an agenda.
-use Rattle.std.proofs.Common.{◌≡◌, suc, Bool, true, false, not, List, [], ◌∷◌, length, filter, All, AllPairs, IsPermutation, if◌then◌else◌, Option, IfSome, drop, refl, sym, ◌∙◌, subst, arith}
-use Rattle.std.specs.List.{slice_get}
-use Rattle.std.proofs.lemmas.Bool.Decides.{nat_tests}
-use Rattle.std.proofs.lemmas.List.Elements.{All-nil, All-cons, All-head, All-tail, All-weaker, All-filter}
-use Rattle.std.proofs.lemmas.List.Kept.{AllPairs-cons}
-use Rattle.std.proofs.lemmas.List.Sorted.{IsPermutation-refl, IsPermutation-sym, IsPermutation-trans, IsPermutation-cons, IsPermutation-middle, All-permutation, length_permutation}
-use Rattle.uvm_phase.specs.declared.agendas.Due.{Due}
-use Rattle.uvm_phase.specs.Dues.{same_cause, is_due_before, insert_due, in_order, IsInOrder, IsOrderOf}
-use Rattle.uvm_phase.specs.Laws.{OrderKeepsAll, OrderKeepsFilters, OrderLosesFirst}
+use Rattle.uvm_phase.proofs.Common.{◌≡◌, suc, Bool, true, false, not, List, [], ◌∷◌, length, filter, All, AllPairs, IsPermutation, if◌then◌else◌, Option, IfSome, drop, refl, sym, ◌∙◌, subst, arith, slice_get, nat_tests, All-nil, All-cons, All-head, All-tail, All-weaker, All-filter, AllPairs-cons, IsPermutation-refl, IsPermutation-sym, IsPermutation-trans, IsPermutation-cons, IsPermutation-middle, All-permutation, length_permutation, Due, same_cause, is_due_before, insert_due, in_order, IsInOrder, IsOrderOf, OrderKeepsAll, OrderKeepsFilters, OrderLosesFirst}
 use Rattle.uvm_phase.proofs.Before.{before_others, not_before}
 
 -- an insertion moves elements

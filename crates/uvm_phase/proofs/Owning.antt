@@ -1,15 +1,5 @@
 -- How many of some calls are whose, and what is left where an owner's are taken out.
-use Rattle.std.proofs.Common.{◌≡◌, ◌≤◌, ◌<◌, ◌+◌, ℕ, zero, suc, Bool, true, false, not, List, [], ◌∷◌, length, filter, get_or, IsPermutation, OnSome, IsSome, ◌↔◌, Option, Some, None, option_map, unwrap_or, take, if◌then◌else◌, cond, refl, sym, ap, ◌∙◌, arith}
-use Rattle.std.proofs.lemmas.Bool.{false≢true}
-use Rattle.std.specs.Cmp.{IsEquivalence}
-use Rattle.std.specs.List.{remove}
-use Rattle.std.proofs.lemmas.List.Sums.{length-filter}
-use Rattle.std.proofs.lemmas.List.Sorted.{sum_by-IsPermutation, IsPermutation-refl, IsPermutation-trans, IsPermutation-cons, IsPermutation-middle, IsPermutation-map}
-use Rattle.uvm_phase.specs.declared.agendas.Due.{Due}
-use Rattle.uvm_phase.specs.declared.owners.Owned.{Owned}
-use Rattle.uvm_phase.specs.declared.owners.Owners.{Owners}
-use Rattle.uvm_phase.specs.Dues.{insert_due}
-use Rattle.uvm_phase.specs.Owners.{owners_of, times, counted, count_at, CountsEach, HasAt}
+use Rattle.uvm_phase.proofs.Common.{◌≡◌, ◌≤◌, ◌<◌, ◌+◌, ℕ, zero, suc, Bool, true, false, not, List, [], ◌∷◌, length, filter, get_or, IsPermutation, OnSome, IsSome, ◌↔◌, Option, Some, None, option_map, unwrap_or, take, if◌then◌else◌, cond, refl, sym, ap, ◌∙◌, arith, false≢true, IsEquivalence, remove, length-filter, sum_by-IsPermutation, IsPermutation-refl, IsPermutation-trans, IsPermutation-cons, IsPermutation-middle, IsPermutation-map, Due, Owned, Owners, insert_due, owners_of, times, counted, count_at, CountsEach, HasAt}
 use Rattle.uvm_phase.proofs.Ordered.{IsPermutation-insert_due}
 
 -- two that are the same are so to each other

@@ -1,10 +1,5 @@
 -- Where a call stands that is added to a list in the order in which its calls come due.
-use Rattle.std.proofs.Common.{◌≡◌, ℕ, zero, suc, Bool, true, false, not, List, [], ◌∷◌, drop, filter, get_or, All, Bor, Option, Some, None, IfSome, option_copied, if◌then◌else◌, refl, sym, ap, arith}
-use Rattle.std.specs.List.{insert, slice_get}
-use Rattle.std.specs.List.Sorted.{IsPartitionedBy, IsPartitionPoint}
-use Rattle.std.proofs.lemmas.List.Elements.{All-cons, All-get_or, All-filter}
-use Rattle.uvm_phase.specs.declared.agendas.Due.{Due}
-use Rattle.uvm_phase.specs.Dues.{is_due_before, insert_due, IsInOrder}
+use Rattle.uvm_phase.proofs.Common.{◌≡◌, ℕ, zero, suc, Bool, true, false, not, List, [], ◌∷◌, drop, filter, get_or, All, Bor, Option, Some, None, IfSome, option_copied, if◌then◌else◌, refl, sym, ap, arith, insert, slice_get, IsPartitionedBy, IsPartitionPoint, All-cons, All-get_or, All-filter, Due, is_due_before, insert_due, IsInOrder}
 use Rattle.uvm_phase.proofs.Before.{before_others, not_before_self}
 use Rattle.uvm_phase.proofs.Ordered.{NotBefore, Ordered, AllPairs-from_behind, behind_from_AllPairs, Ordered-insert_due, insert_due-first}
 

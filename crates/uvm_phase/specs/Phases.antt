@@ -7,15 +7,15 @@ use Rattle.uvm_phase.specs.declared.phases.Phase.TheVariants.{Build, Connect, En
 abbrev pub common_phases : List Phase
 common_phases = Build ∷ Connect ∷ EndOfElaboration ∷ StartOfSimulation ∷ Run ∷ Extract ∷ Check ∷ Report ∷ Final ∷ []
 
--- the run-time phases, which run one after another beside run
+-- the run-time phases, which run one after another in parallel with run
 abbrev pub runtime_phases : List Phase
 runtime_phases = PreReset ∷ Reset ∷ PostReset ∷ PreConfigure ∷ Configure ∷ PostConfigure ∷ PreMain ∷ Main ∷ PostMain ∷ PreShutdown ∷ Shutdown ∷ PostShutdown ∷ []
 
--- all phases by their numbers
+-- all phases in the order of their numbers
 abbrev pub phases : List Phase
 phases = common_phases ++ runtime_phases
 
--- where a phase stands among them
+-- the number of a phase: its index among all phases
 abbrev pub phase_number : Phase → ℕ
 phase_number Build = 0
 phase_number Connect = 1
@@ -39,27 +39,27 @@ phase_number PreShutdown = 18
 phase_number Shutdown = 19
 phase_number PostShutdown = 20
 
--- whether two phases are one
+-- whether two phases are the same
 abbrev pub same_phase : Phase → Phase → Bool
 same_phase a b = phase_number a == phase_number b
 
--- the phase after one, of its sort; behind the last run-time phase, as behind run, comes extract
+-- the phase after a common or run-time phase; extract follows run and the last run-time phase, none follows final
 abbrev pub phase_after : Phase → Option Phase
 phase_after Final = None
 phase_after PostShutdown = Some Extract
 phase_after phase = slice_get phases (phase_number phase + 1)
 
--- whether a phase comes to parents before their children: build and final do
+-- whether parents receive the calls of a phase before their children: build and final
 abbrev pub is_top_down : Phase → Bool
 is_top_down Build = true
 is_top_down Final = true
 is_top_down phase = false
 
--- whether it is a run-time phase: these have the numbers behind those of the common ones
+-- whether a phase is a run-time phase, with a number above those of the common phases
 abbrev pub is_runtime : Phase → Bool
 is_runtime phase = nat_lt (phase_number Final) (phase_number phase)
 
--- whether a phase takes simulated time: run does, and so does each run-time phase
+-- whether a phase takes simulated time: run, or a run-time phase
 abbrev pub is_task : Phase → Bool
 is_task phase = same_phase phase Run || is_runtime phase
 

@@ -13,13 +13,13 @@ use std::collections::VecDeque;
 use std::hash::Hash;
 use std::marker::Model;
 
-/// The most ticks of a wait and of a drain time.
+/// The largest wait and the largest drain time, in ticks.
 pub const MAX_TICKS: u64 = 1_000_000_000_000_000;
 
-/// What caused a call.
+/// The cause of a call: one of the calls that an entry of the log requests.
 #[derive(Clone, Copy, PartialEq, Eq)]
 pub struct Cause {
-    /// The place of an entry of a log, from 0.
+    /// The index of the entry in the log, from 0.
     pub place: u32,
     /// The number of the call among those of that entry, from 0.
     pub number: u32,
@@ -28,20 +28,20 @@ pub struct Cause {
 /// A call that is due.
 #[derive(Drop)]
 pub struct Due<O, N> {
-    /// When it is due, in ticks of simulated time.
+    /// The time at which the call is due, in ticks of simulated time.
     pub time: u64,
-    /// Why it is due. At one time the calls of earlier causes come first.
+    /// The cause of the call. At the same time the calls of earlier causes come first.
     pub cause: Cause,
-    /// The phase in which it was asked for; `Agenda::clear` takes out the calls of a phase.
+    /// The phase in which the call was requested; `Agenda::clear` removes the calls of a phase.
     pub phase: Phase,
-    /// Who is called; `Agenda::cancel` takes out the calls of an owner.
+    /// The receiver of the call; `Agenda::cancel` removes the calls of an owner.
     pub owner: O,
-    /// What the owner is told.
+    /// The content of the call.
     pub notice: N,
 }
 
 impl<O, N> Due<O, N> {
-    // When it is due, and why.
+    // Returns the time and the cause of the call.
     pub(crate) fn key(&self) -> Key {
         Key {
             time: self.time,
@@ -50,7 +50,7 @@ impl<O, N> Due<O, N> {
         }
     }
 
-    // Whether it comes due before another.
+    // Returns whether this call comes due before another.
     #[tactic(auto, unfolding(crate::specs::Dues::is_due_before))]
     fn is_due_before(&self, other: &Due<O, N>) -> bool
         ensures { result ≡ is_due_before self.now other.now }
@@ -63,20 +63,19 @@ impl<O, N> Due<O, N> {
     }
 }
 
-/// The calls that are due while a phase runs (IEEE 1800.2-2020, Clause 9). They come due by time, at one time by the place of the cause, then
-/// by its number, and where these are equal in the order in which they were added. Contracts see them in this order, and
-/// beside them for how many more there is room. To add one takes few looks, as in a binary search, and moves those in front of it
-/// or those behind it; to take the first takes a constant time. To take out those of a phase takes the time of a look at all, and so does
-/// to take out those of an owner the first time, and the first after a phase was taken out. From then on that takes a constant time where
-/// nothing is due to the owner, few looks where one call is, which was added last, and else a look at all.
+/// The calls that are due while phases run (IEEE 1800.2-2020, Clause 9). They are ordered by time, then by the place of the cause, then by
+/// its number, then by the order in which they were added. Contracts see the calls in this order, and the number of further calls for
+/// which capacity is reserved. Cost for n calls: `due` is O(log n) comparisons and one move of the shorter side; `take_first` is O(1);
+/// `clear` is O(n). The first `cancel`, and the first after each `clear`, is O(n). Any other `cancel` is O(1) if the owner has no call. If
+/// the owner has one call and it was added last for this owner, `cancel` is O(log n) comparisons and one move. Otherwise it is O(n).
 pub struct Agenda<O: Eq + Hash, N> {
-    // In the order in which they come due.
+    // The calls in the order in which they come due.
     dues: VecDeque<Due<O, N>>,
-    // How many of them are whose, from the first `cancel` on, and from the first after each `clear`.
+    // The number of calls of each owner, counted from the first `cancel` on, and again from the first after each `clear`.
     owners: Owners<O>,
 }
 
-// (By hand, so that crates above prove no drop of what it holds.)
+// (Written by hand, so that the crates that use an agenda need no proof that its fields are dropped.)
 impl<O: Eq + Hash + Drop, N: Drop> Drop for Agenda<O, N> {
     fn drop(self) {
         let Agenda { dues: _, owners: _ } = self;
@@ -97,7 +96,7 @@ impl<O: Eq + Hash, N> Model for Agenda<O, N> {
 }
 
 impl<O: Copy + Eq + Hash + Drop, N: Drop> Agenda<O, N> {
-    /// Nothing is due, and there is room for nothing.
+    /// Creates an agenda without calls and without reserved capacity.
     pub fn new(alloc: Global) -> Agenda<O, N>
         ensures { result.dues ≡ [] }
     {
@@ -107,8 +106,8 @@ impl<O: Copy + Eq + Hash + Drop, N: Drop> Agenda<O, N> {
         }
     }
 
-    /// Makes room for a call: the next `due` then takes no memory. Errors: out of memory, which does not come where there is
-    /// room. No call changes, and no room is given up, here or below.
+    /// Reserves capacity for a call: the next `due` then allocates no memory. Changes no call. Errors: out of memory, only if no capacity
+    /// is reserved. Neither this function nor any other reduces the capacity.
     pub fn reserve(&mut self) -> Result<(), AllocError>
         ensures dues { self.new.dues ≡ self.old.dues }
         ensures spare { OnOk result (0 < self.new.spare) }
@@ -120,8 +119,7 @@ impl<O: Copy + Eq + Hash + Drop, N: Drop> Agenda<O, N> {
         Ok(())
     }
 
-    /// Adds a call that is due at a time, in ticks. Takes no memory where there is room for it. An error where there is none and
-    /// memory is refused; then nothing was added.
+    /// Adds a call that is due at `time` ticks. Errors: out of memory, only if no capacity was reserved. An error adds nothing.
     pub fn due(
         &mut self,
         time: u64,
@@ -149,12 +147,12 @@ impl<O: Copy + Eq + Hash + Drop, N: Drop> Agenda<O, N> {
         Ok(())
     }
 
-    /// The allocator of what is kept.
+    /// Returns the allocator of the agenda.
     pub fn alloc(&self) -> Global {
         *self.dues.allocator()
     }
 
-    /// The call that comes due first, if one is due; the others follow in order. Takes no memory.
+    /// Returns the call that comes due first, if there is one; the others follow in order. Allocates no memory.
     pub fn first(&self) -> Option<&Due<O, N>>
         ensures value { option_copied result ≡ slice_get self.now.dues 0 }
         ensures least { IfSome result (λ due. All (λ other. is_due_before other due.now ≡ false) self.now.dues) }
@@ -163,7 +161,8 @@ impl<O: Copy + Eq + Hash + Drop, N: Drop> Agenda<O, N> {
         self.dues.front()
     }
 
-    /// Takes out the call that comes due first, if one is due. Takes no memory, and leaves room for another.
+    /// Removes the call that comes due first and returns it, if there is one. Allocates no memory; the capacity becomes free for another
+    /// call.
     pub fn take_first(&mut self) -> Option<Due<O, N>>
         ensures value { result ≡ slice_get self.old.dues 0 }
         ensures rest { self.new.dues ≡ drop 1 self.old.dues }
@@ -174,7 +173,7 @@ impl<O: Copy + Eq + Hash + Drop, N: Drop> Agenda<O, N> {
         Some(first)
     }
 
-    /// Takes out the calls of a phase. Takes no memory, and leaves room for as many. Takes the time of a look at all.
+    /// Removes the calls of a phase. Allocates no memory; the capacity becomes free for as many other calls. Cost: O(n) for n calls.
     pub fn clear(&mut self, phase: Phase)
         ensures dues { self.new.dues ≡ filter (λ due. not (same_phase due.phase phase)) self.old.dues }
         ensures capacity { capacity_of self.new ≡ capacity_of self.old }
@@ -183,7 +182,7 @@ impl<O: Copy + Eq + Hash + Drop, N: Drop> Agenda<O, N> {
         self.owners.forget();
     }
 
-    /// How many calls are due. None comes due before one that stands in front of it.
+    /// Returns the number of calls. The contract also states their order: no call comes due before one that precedes it.
     pub fn len(&self) -> usize
         ensures count { result ≡ length self.now.dues }
         ensures order { IsInOrder self.now.dues }
@@ -191,18 +190,18 @@ impl<O: Copy + Eq + Hash + Drop, N: Drop> Agenda<O, N> {
         self.dues.len()
     }
 
-    /// Whether none is due.
+    /// Returns whether there are no calls.
     pub fn is_empty(&self) -> bool
         ensures { result ≡ (length self.now.dues == 0) }
     {
         self.dues.is_empty()
     }
 
-    /// Takes out the calls of an owner. Takes no memory, and leaves room for as many. The first time, and the first after each `clear`, it
-    /// looks at all. From then on it takes a constant time where nothing is due to the owner. Where one call is, which was added last, it
-    /// takes few looks, as in a binary search, and moves those in front of it or those behind it. Else it looks at all: where several are
-    /// due, where the one is not that which was added last, and where calls were added without `reserve` for more owners than there was
-    /// room for.
+    /// Removes the calls of an owner. Allocates no memory; the capacity becomes free for as many other calls. Cost for n calls: O(n) for
+    /// the first `cancel` and for the first after each `clear`. Any other is O(1) if the owner has no call. If the owner's only call is
+    /// the one added last for it, the cost is O(log n) comparisons and one move of the shorter side. Otherwise it is O(n): if the owner
+    /// has several calls, or its one call is not the one added last. It is also O(n) if calls were added for more owners than could be
+    /// counted without an allocation.
     pub fn cancel(&mut self, owner: &O)
         ensures dues { self.new.dues ≡ filter (λ due. not (O.eq due.owner owner.now)) self.old.dues }
         ensures capacity { capacity_of self.new ≡ capacity_of self.old }
@@ -218,7 +217,7 @@ impl<O: Copy + Eq + Hash + Drop, N: Drop> Agenda<O, N> {
     }
 }
 
-// Makes room for a call where there is none, and then for as many owners as for calls. Errors: out of memory for calls.
+// Reserves capacity for a call if there is none, and then for as many owners as for calls. Errors: out of memory for calls.
 fn make_room<O: Copy + Eq + Hash + Drop, N: Drop>(
     dues: &mut VecDeque<Due<O, N>>,
     owners: &mut Owners<O>,
@@ -237,7 +236,7 @@ fn make_room<O: Copy + Eq + Hash + Drop, N: Drop>(
     Ok(())
 }
 
-// Where a call stands that is added: in front of the first that comes after it.
+// Returns the index at which a new call is inserted: before the first call that comes due after it.
 fn place_of<O, N>(dues: &VecDeque<Due<O, N>>, due: &Due<O, N>) -> usize
     requires { IsInOrder dues.now.items }
     ensures within { result ≤ deque_len dues.now }
@@ -260,7 +259,7 @@ fn take_out_owner<O: PartialEq + Drop, N: Drop>(dues: &mut VecDeque<Due<O, N>>, 
     dues.retain(|due| due.owner != *owner);
 }
 
-// Takes out the calls of an owner of which it is known how many there are.
+// Removes the calls of an owner, given their number.
 fn take_out_owned<O: Eq + Drop, N: Drop>(dues: &mut VecDeque<Due<O, N>>, owner: &O, owned: &Owned)
     requires { owned.now.count ≡ times O.eq owner.now (owners_of dues.old.items) }
     ensures left { dues.new.items ≡ filter (λ due. not (O.eq due.owner owner.now)) dues.old.items }
@@ -275,7 +274,8 @@ fn take_out_owned<O: Eq + Drop, N: Drop>(dues: &mut VecDeque<Due<O, N>>, owner: 
     take_out_owner(dues, owner);
 }
 
-// Where the call of an owner stands that was added last, under a key, if it is due and no other was added later under that key.
+// Returns the index of the last call whose key is at most `last`, if that is a call of the owner. It is the owner's call with the key
+// `last` if that call is still due and no call was added later with the same key.
 fn place_of_last<O: Eq, N>(dues: &VecDeque<Due<O, N>>, owner: &O, last: Key) -> Option<usize>
     ensures { IfSome result (λ place. HasAt (λ due. O.eq due.owner owner.now) dues.now.items place) }
 {

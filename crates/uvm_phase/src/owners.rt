@@ -1,4 +1,4 @@
-//! How many of the calls that are due are whose.
+//! The number of due calls of each owner.
 
 ghost use Rattle.std.specs.Prelude.{◌≡◌, ◌<◌, ◌+◌, ◌^◌, ◌∷◌, List, true, false, not, filter, option_map};
 ghost use Rattle.std.specs.HashMap.{spare};
@@ -9,8 +9,8 @@ use std::alloc::Global;
 use std::collections::{HashMap, VecDeque};
 use std::hash::Hash;
 
-/// When a call is due, in ticks of simulated time, and why: the place and the number of its cause. Keys stand in the order in which
-/// calls come due.
+/// The time at which a call is due, in ticks of simulated time, and the place and number of its cause. Keys are ordered as the calls come
+/// due.
 #[derive(Clone, Copy, PartialEq, Eq, PartialOrd, Ord)]
 pub(crate) struct Key {
     pub time: u64,
@@ -18,16 +18,16 @@ pub(crate) struct Key {
     pub number: u32,
 }
 
-/// How many calls are due to an owner, at least 1, and the key of the one that was added last. That one may be due no longer: the
-/// key says where to look first, and nothing more.
+/// The number of calls that are due for an owner, at least 1, and the key of the one that was added last. That call may no longer be due:
+/// the key is only the first place to search.
 #[derive(Clone, Copy)]
 pub(crate) struct Owned {
     pub count: usize,
     pub last: Key,
 }
 
-/// How many calls are due to each owner. An owner to whom nothing is due is not kept. The counts are incomplete, and say nothing, until
-/// they are counted anew, after `forget`, and where there was no room for an owner.
+/// The number of due calls of each owner; an owner without calls has no entry. The counts are incomplete, and mean nothing, until
+/// `count_anew` is called. `forget` makes them incomplete, and so does `add` without capacity for a new owner.
 #[derive(Drop)]
 pub(crate) struct Owners<O: Eq + Hash> {
     pub counts: HashMap<O, Owned>,
@@ -35,7 +35,7 @@ pub(crate) struct Owners<O: Eq + Hash> {
 }
 
 impl<O: Copy + Eq + Hash + Drop> Owners<O> {
-    // Nothing is counted yet, and there is room for nothing.
+    // Creates counts that are incomplete, without capacity.
     pub(crate) fn new(alloc: Global) -> Owners<O>
         ensures { result.complete ≡ false }
     {
@@ -45,14 +45,14 @@ impl<O: Copy + Eq + Hash + Drop> Owners<O> {
         }
     }
 
-    // Counts no more, until the calls are counted anew. Keeps its room.
+    // Makes the counts incomplete until `count_anew` is called. Keeps the capacity.
     pub(crate) fn forget(&mut self)
         ensures { self.new ≡ record self.old { complete = false } }
     {
         self.complete = false;
     }
 
-    // Makes room for as many more owners. Where memory is refused there is none; the counts stay in any case.
+    // Reserves capacity for `additional` more owners. Does nothing if the allocation fails; the counts do not change in either case.
     pub(crate) fn reserve(&mut self, additional: usize)
         ensures counts { (owners : List O) → CountsEach O.eq self.old owners → CountsEach O.eq self.new owners }
         ensures complete { self.new.complete ≡ self.old.complete }
@@ -60,7 +60,7 @@ impl<O: Copy + Eq + Hash + Drop> Owners<O> {
         let _room = self.counts.reserve(additional);
     }
 
-    // Counts one more call of an owner. Takes no memory: where there is no room the counts become incomplete.
+    // Counts one more call of an owner. Allocates no memory: if there is no capacity for a new owner, the counts become incomplete.
     pub(crate) fn add(&mut self, owner: O, last: Key)
         requires { self.old.complete ≡ true → count_at O.eq self.old owner + 1 < 2 ^ 64 }
         ensures counts { (owners : List O) → CountsEach O.eq self.old owners → CountsEach O.eq self.new (owner ∷ owners) }
@@ -84,7 +84,7 @@ impl<O: Copy + Eq + Hash + Drop> Owners<O> {
         }
     }
 
-    // Counts one call less of an owner.
+    // Counts one call less for an owner.
     pub(crate) fn subtract(&mut self, owner: &O)
         ensures counts { (owners : List O) → CountsEach O.eq self.old (owner.now ∷ owners) → CountsEach O.eq self.new owners }
         ensures complete { self.new.complete ≡ self.old.complete }
@@ -101,7 +101,7 @@ impl<O: Copy + Eq + Hash + Drop> Owners<O> {
         self.counts.remove(owner);
     }
 
-    // Takes an owner out: what is due to it, if something is.
+    // Removes an owner from the counts and returns its count and last key, if it has calls.
     pub(crate) fn take(&mut self, owner: &O) -> Option<Owned>
         ensures count { (owners : List O) → CountsEach O.eq self.old owners → self.old.complete ≡ true → option_map (λ owned. owned.count) result ≡ counted (times O.eq owner.now owners) }
         ensures left { (owners : List O) → CountsEach O.eq self.old owners → CountsEach O.eq self.new (filter (λ other. not (O.eq other owner.now)) owners) }
@@ -110,7 +110,7 @@ impl<O: Copy + Eq + Hash + Drop> Owners<O> {
         self.counts.remove(owner)
     }
 
-    // Counts anew whose the calls are. Takes no memory.
+    // Counts the calls of each owner again, from the calls themselves. Allocates no memory.
     pub(crate) fn count_anew<N>(&mut self, dues: &VecDeque<Due<O, N>>)
         ensures { CountsEach O.eq self.new (owners_of dues.now.items) }
     {

@@ -3,63 +3,63 @@
 ghost use Rattle.std.specs.Prelude.{◌≡◌, Some};
 ghost use Rattle.uvm_phase.specs.Phases.{phase_number, phase_after, is_top_down, is_runtime, is_task, phase_name};
 
-/// A phase (IEEE 1800.2-2020, Clause 9): the nine common phases in the order in which they run, and behind them the twelve run-time
-/// phases, which run one after another beside `Run`. `Run` and the run-time phases take simulated time.
+/// A phase (IEEE 1800.2-2020, Clause 9). The nine common phases come first, in the order in which they run, and then the twelve run-time
+/// phases. The run-time phases run one after another, in parallel with `Run`. `Run` and the run-time phases take simulated time.
 #[derive(Clone, Copy, PartialEq, Eq, Hash)]
 pub enum Phase {
-    /// Components are made and configured.
+    /// Components are created and configured.
     Build,
     /// Ports are connected.
     Connect,
-    /// What was made is looked over and adjusted.
+    /// The finished hierarchy is inspected and adjusted.
     EndOfElaboration,
-    /// The last phase before time passes.
+    /// The last phase before simulated time advances.
     StartOfSimulation,
-    /// Stimulus is given, and time passes.
+    /// Stimulus is applied, and simulated time advances.
     Run,
-    /// What the run left is collected.
+    /// Results of the run phase are collected.
     Extract,
-    /// What was collected is checked.
+    /// The collected results are checked.
     Check,
-    /// The outcome is reported.
+    /// The result of the run is reported.
     Report,
-    /// What is open is closed.
+    /// Open resources are closed.
     Final,
-    /// The design is about to be reset.
+    /// The phase before the reset of the design.
     PreReset,
     /// The design is reset.
     Reset,
-    /// The design was reset.
+    /// The phase after the reset of the design.
     PostReset,
-    /// The design is about to be configured.
+    /// The phase before the configuration of the design.
     PreConfigure,
     /// The design is configured.
     Configure,
-    /// The design was configured.
+    /// The phase after the configuration of the design.
     PostConfigure,
-    /// The main stimulus is about to be given.
+    /// The phase before the main stimulus.
     PreMain,
-    /// The main stimulus is given.
+    /// The main stimulus is applied.
     Main,
-    /// The main stimulus was given.
+    /// The phase after the main stimulus.
     PostMain,
-    /// What is left in the design is about to be drained.
+    /// The phase before the shutdown, in which the design is drained.
     PreShutdown,
-    /// What is left in the design is drained.
+    /// Data that is still in the design is drained.
     Shutdown,
-    /// What was left in the design was drained.
+    /// The phase after the shutdown.
     PostShutdown,
 }
 
 impl Phase {
-    /// The number of the phase, from 0: the common phases in their order, and then the run-time phases in theirs.
+    /// Returns the number of the phase, from 0: the common phases in their order, then the run-time phases in theirs.
     pub fn number(self) -> u8
         ensures { result ≡ phase_number self }
     {
         self as u8
     }
 
-    /// The name of the phase, as `end_of_elaboration`.
+    /// Returns the name of the phase, for example `end_of_elaboration`.
     pub fn name(self) -> &'static str
         ensures { result.now ≡ phase_name self }
     {
@@ -88,22 +88,22 @@ impl Phase {
         }
     }
 
-    /// Whether the phase is top-down: it comes to parents before their children. Build and final are; the others are
-    /// bottom-up (IEEE 1800.2-2020, Clause 9; that run is started bottom-up is this project's choice).
+    /// Returns whether the phase is top-down: parents receive their calls before their children. Build and final are top-down; the others
+    /// are bottom-up (IEEE 1800.2-2020, Clause 9). That run is started bottom-up is a choice of this project.
     pub fn is_top_down(self) -> bool
         ensures { result ≡ is_top_down self }
     {
         matches!(self, Phase::Build | Phase::Final)
     }
 
-    /// Whether the phase is one of the twelve run-time phases, pre_reset to post_shutdown (Clause 9).
+    /// Returns whether the phase is one of the twelve run-time phases, pre_reset to post_shutdown (Clause 9).
     pub fn is_runtime(self) -> bool
         ensures { result ≡ is_runtime self }
     {
         self.number() > Phase::Final.number()
     }
 
-    /// Whether the phase is a task phase: it takes simulated time (Clause 9). Run is, and so is each run-time phase.
+    /// Returns whether the phase is a task phase, which takes simulated time (Clause 9): run, or a run-time phase.
     pub fn is_task(self) -> bool
         ensures { result ≡ is_task self }
     {
@@ -111,13 +111,13 @@ impl Phase {
     }
 }
 
-/// The order of the phases (IEEE 1800.2-2020, Clause 9): the common phases from build to final, and the run-time phases from
-/// pre_reset to post_shutdown. Behind the last of these, as behind run, comes extract.
+/// The order of the phases (IEEE 1800.2-2020, Clause 9): the common phases from build to final, and the run-time phases from pre_reset to
+/// post_shutdown. Extract follows both run and post_shutdown.
 #[derive(Clone, Copy)]
 pub struct Schedule;
 
 impl Schedule {
-    /// The phase after one, none after final.
+    /// Returns the phase after `phase`, or `None` after final.
     pub fn next(phase: Phase) -> Option<Phase>
         ensures { result ≡ phase_after phase }
     {

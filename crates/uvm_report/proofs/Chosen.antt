@@ -1,10 +1,5 @@
 -- The choice is that of the setting that prevails.
-use Rattle.std.proofs.Common.{◌≡◌, ℕ, Bool, true, false, List, [], ◌∷◌, ◌++◌, Option, Some, None, ◌&&◌, nat_le, if◌then◌else◌, MatchOption, IfSome, IsTrue, All, option_map, refl, ap, subst, ◌∙◌, sym, inl, inr, arith}
-use Rattle.std.proofs.lemmas.Bool.{cases_Bool, false≢true, leb-true, leb-false}
-use Rattle.std.proofs.lemmas.List.Elements.{All-nil, All-cons, All-head, All-tail, All-append}
-use Rattle.uvm_report.specs.declared.severities.Severity.{Severity}
-use Rattle.uvm_report.specs.Choice.{class_of, class_number, gives_way}
-use Rattle.uvm_report.specs.Settings.{Setting, applies, choice_of, choice_among, IsBefore, IsNotAfter, Prevails, ChoicePrevails, NoChoiceWhereNoneApplies}
+use Rattle.uvm_report.proofs.Common.{◌≡◌, ℕ, Bool, true, false, List, [], ◌∷◌, ◌++◌, Option, None, ◌&&◌, nat_le, if◌then◌else◌, MatchOption, IfSome, IsTrue, All, option_map, refl, ap, subst, ◌∙◌, sym, inl, inr, arith, cases_Bool, false≢true, leb-true, leb-false, All-nil, All-cons, All-head, All-tail, All-append, Severity, class_of, class_number, gives_way, Setting, applies, choice_of, choice_among, IsBefore, IsNotAfter, Prevails, ChoicePrevails, NoChoiceWhereNoneApplies, Some}
 use Rattle.uvm_report.proofs.Given.{winner, winner-cons}
 
 module _ {A : Type 0} (text : List ℕ) (severity : Severity) (id : List ℕ) where

@@ -1,21 +1,5 @@
 -- What one more command comes to.
-use Rattle.std.proofs.Common.{◌≡◌, ℕ, ◌+◌, ◌≤◌, List, [], ◌∷◌, length, Bool, true, false, nat_lt, suc, map, filter, sum_by, if◌then◌else◌, refl, sym, ap, ◌∙◌, inl, inr, add-one, add-zero, arith}
-use Rattle.std.specs.List.{filter_map}
-use Rattle.std.proofs.lemmas.Bool.{cases_Bool}
-use Rattle.std.proofs.Math.Bool.{or-true}
-use Rattle.std.proofs.lemmas.Bool.Decides.{nat_tests}
-use Rattle.uvm_glob.specs.Paths.{path_text}
-use Rattle.uvm_report.specs.declared.severities.Severity.{Severity}
-use Rattle.uvm_report.specs.declared.severities.Severity.TheVariants.{Info, Warning, Error, Fatal}
-use Rattle.uvm_report.specs.declared.messages.Report.{Report}
-use Rattle.uvm_report.specs.declared.messages.Fate.TheVariants.{Issued}
-use Rattle.uvm_report.specs.Severities.{is_empty}
-use Rattle.uvm_report.specs.Counts.{Counts, no_counts, issued_number, with_id, with_report, Agree}
-use Rattle.uvm_report.specs.Fates.{Ruling, ruling_by, effective_verbosity, is_issued, counts_with, is_reached, fate_of}
-use Rattle.uvm_report.specs.Commands.{Command, is_issue, SetVerbosity, SetAction, SetSeverity, SetQuitLimit, Issue, which_from, level_in, actions_in, severity_in, chosen, given_ruling, quit_total, quit_limit, IssuedReport, issued_reports, severity_count, quit_count, counts_in, report_counts}
-use Rattle.uvm_report.specs.Observed.{Kept}
-use Rattle.uvm_report.specs.Changes.{ruling_at, severity_after, level_after, actions_after, limit_after, counts_after, Gives}
-use Rattle.uvm_report.specs.Laws.{NewGivesNothing, CommandsAreGiven, FatesAreGiven, CommandsAreCounted, ReachedLimitEndsRuns}
+use Rattle.uvm_report.proofs.Common.{◌≡◌, ℕ, ◌+◌, ◌≤◌, List, [], ◌∷◌, Bool, true, false, suc, map, filter, sum_by, if◌then◌else◌, refl, sym, ap, ◌∙◌, inl, inr, add-one, add-zero, arith, filter_map, cases_Bool, or-true, nat_tests, path_text, Severity, Info, Warning, Error, Fatal, Report, Issued, is_empty, Counts, no_counts, issued_number, with_id, with_report, Agree, Ruling, ruling_by, effective_verbosity, is_issued, counts_with, is_reached, fate_of, Command, is_issue, SetVerbosity, SetAction, SetSeverity, SetQuitLimit, Issue, which_from, level_in, actions_in, severity_in, chosen, given_ruling, quit_total, quit_limit, IssuedReport, issued_reports, severity_count, quit_count, counts_in, report_counts, Representation, ruling_at, severity_after, level_after, actions_after, limit_after, counts_after, ReportsAgree, NewGivesNothing, CommandsAreGiven, FatesAreGiven, CommandsAreCounted, ReachedLimitEndsRuns, length, nat_lt}
 use Rattle.uvm_report.proofs.Given.{choice-none, choice-given}
 use Rattle.uvm_report.proofs.Counted.{number, all-with_id}
 use Rattle.uvm_report.proofs.Ids.{id_counts-cons}
@@ -101,11 +85,11 @@ report_counts-issue path report older = elim (cases_Bool (is_issued report (give
 ]
 
 -- what the settings say
-ruling-given : (kept : Kept) (commands : List Command) → Gives kept commands → (path : List (List ℕ)) (report : Report) → ruling_at kept path report ≡ given_ruling commands path report
+ruling-given : (kept : Representation) (commands : List Command) → ReportsAgree kept commands → (path : List (List ℕ)) (report : Report) → ruling_at kept path report ≡ given_ruling commands path report
 ruling-given kept commands gives path report =
     λ i. ruling_by (λ severity id. gives.severities path severity id i) (λ severity id. gives.levels path severity id i) (λ severity id. gives.actions path severity id i) report
 
-counts-command : (command : Command) (older : List Command) (kept : Kept) → Gives kept older → counts_after command kept ≡ report_counts (command ∷ older)
+counts-command : (command : Command) (older : List Command) (kept : Representation) → ReportsAgree kept older → counts_after command kept ≡ report_counts (command ∷ older)
 unfolding report_counts
 counts-command (SetVerbosity scope which level) older kept gives = gives.counts
 counts-command (SetAction scope which actions) older kept gives = gives.counts

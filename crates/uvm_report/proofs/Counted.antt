@@ -1,11 +1,5 @@
 -- One more report in the counts.
-use Rattle.std.proofs.Common.{◌≡◌, ℕ, ◌+◌, ◌≤◌, List, [], ◌∷◌, nat_eq, sum_by, unwrap_or, refl, ap, inl, inr, arith}
-use Rattle.std.specs.Map.{lookup}
-use Rattle.std.specs.Cmp.Lexicographic.{pointwise}
-use Rattle.std.proofs.lemmas.Bool.{cases_Bool}
-use Rattle.std.proofs.lemmas.List.Sums.{sum_by-cons}
-use Rattle.indexmap.specs.IndexMap.{insert_entry}
-use Rattle.uvm_report.specs.Counts.{with_id}
+use Rattle.uvm_report.proofs.Common.{◌≡◌, ℕ, ◌+◌, ◌≤◌, List, [], ◌∷◌, nat_eq, sum_by, unwrap_or, refl, ap, inl, inr, arith, lookup, pointwise, cases_Bool, sum_by-cons, insert_entry, with_id}
 
 -- the number of a counted id
 abbrev pub number : List ℕ × ℕ → ℕ

@@ -1,17 +1,7 @@
 -- What one more setting does to what prevails.
-use Rattle.std.proofs.Common.{◌≡◌, ℕ, ◌++◌, reverse, Bool, true, false, List, [], ◌∷◌, Option, Some, None, ◌&&◌, if◌then◌else◌, MatchOption, filter, map, fold, option_map, refl, ap, ◌∙◌, sym, inl, inr, append_assoc}
-use Rattle.std.proofs.lemmas.Bool.{cases_Bool, eqb-true}
-use Rattle.std.proofs.lemmas.List.{append-nil, reverse-append}
-use Rattle.uvm_glob.specs.Lists.{newest, first_given}
-use Rattle.uvm_report.specs.declared.severities.Severity.{Severity}
-use Rattle.uvm_report.specs.declared.settings.Which.{Which}
+use Rattle.uvm_report.proofs.Common.{◌≡◌, ℕ, ◌++◌, reverse, Bool, true, false, List, [], ◌∷◌, Option, None, ◌&&◌, if◌then◌else◌, MatchOption, filter, map, fold, option_map, refl, ap, ◌∙◌, sym, inl, inr, append_assoc, cases_Bool, eqb-true, append-nil, reverse-append, newest, first_given, Severity, Which, ReportScope, Class, class_of, class_number, gives_way, ChosenValue, after_setting, Setting, applies, settings_for, is_of, last_of_first_class, choice_of, choice_among, setting_of, Some}
 use Rattle.uvm_report.specs.declared.settings.Which.TheVariants as which
-use Rattle.uvm_report.specs.declared.settings.Reach.{Reach}
-use Rattle.uvm_report.specs.declared.settings.Class.{Class}
 use Rattle.uvm_report.specs.declared.settings.Class.TheVariants as class
-use Rattle.uvm_report.specs.Choice.{class_of, class_number, gives_way, Choice, after_setting}
-use Rattle.uvm_report.specs.Settings.{Setting, applies, settings_for, is_of, last_of_first_class, choice_of, choice_among}
-use Rattle.uvm_report.specs.Reaches.{setting_of}
 
 module _ {A : Type 0} where
   -- a setting that was found is of that class
@@ -106,23 +96,23 @@ module _ {A : Type 0} where
   choice-none text severity id = refl
 
   -- the choice after one more entry
-  abbrev pub after_entry : List ℕ → Severity → List ℕ → Option (Choice A) → Reach × A → Option (Choice A)
+  abbrev pub after_entry : List ℕ → Severity → List ℕ → Option (ChosenValue A) → ReportScope × A → Option (ChosenValue A)
   after_entry text severity id before entry = after_setting entry.0.scope entry.0.which entry.1 text severity id before
 
   -- what is kept in front of others stands behind them where the newest is first
-  pub reverse-entry : (e : Reach × A) (es : List (Reach × A)) (older : List (Setting A)) → reverse (map setting_of (e ∷ es)) ++ older ≡ reverse (map setting_of es) ++ setting_of e ∷ older
+  pub reverse-entry : (e : ReportScope × A) (es : List (ReportScope × A)) (older : List (Setting A)) → reverse (map setting_of (e ∷ es)) ++ older ≡ reverse (map setting_of es) ++ setting_of e ∷ older
   reverse-entry e es older =
       ap (λ l. l ++ older) (reverse-append (setting_of e ∷ []) (map setting_of es)) ∙ append_assoc (reverse (map setting_of es)) (setting_of e ∷ []) older
 
   -- the entries come to the choice, one after another
-  pub choice-in_turn : (es : List (Reach × A)) (older : List (Setting A)) (text : List ℕ) (severity : Severity) (id : List ℕ) → fold (after_entry text severity id) (choice_among older text severity id) es ≡ choice_among (reverse (map setting_of es) ++ older) text severity id
+  pub choice-in_turn : (es : List (ReportScope × A)) (older : List (Setting A)) (text : List ℕ) (severity : Severity) (id : List ℕ) → fold (after_entry text severity id) (choice_among older text severity id) es ≡ choice_among (reverse (map setting_of es) ++ older) text severity id
   choice-in_turn [] older text severity id = refl
   choice-in_turn (e ∷ es) older text severity id =
       ap (λ before. fold (after_entry text severity id) before es) (sym (choice-given (setting_of e) older text severity id))
       ∙ choice-in_turn es (setting_of e ∷ older) text severity id
       ∙ ap (λ l. choice_among l text severity id) (sym (reverse-entry e es older))
 
-  pub choice-all : (es : List (Reach × A)) (text : List ℕ) (severity : Severity) (id : List ℕ) → fold (after_entry text severity id) None es ≡ choice_among (reverse (map setting_of es)) text severity id
+  pub choice-all : (es : List (ReportScope × A)) (text : List ℕ) (severity : Severity) (id : List ℕ) → fold (after_entry text severity id) None es ≡ choice_among (reverse (map setting_of es)) text severity id
   choice-all es text severity id =
       ap (λ before. fold (after_entry text severity id) before es) (sym (choice-none text severity id))
       ∙ (simp append-nil at (choice-in_turn es [] text severity id))

@@ -1,12 +1,5 @@
 -- The counts by id.
-use Rattle.std.proofs.Common.{◌≡◌, ℕ, List, [], ◌∷◌, ◌++◌, length, Bool, true, false, ◌||◌, nat_eq, filter, map, refl, sym, ap, ◌∙◌, inl, inr, add-one}
-use Rattle.std.specs.List.{list_any}
-use Rattle.std.specs.Cmp.Lexicographic.{pointwise}
-use Rattle.std.proofs.lemmas.Bool.{cases_Bool, and_parts, or_parts, eqb-true, eq-eqb, false≢true}
-use Rattle.std.proofs.lemmas.List.{map-append}
-use Rattle.std.proofs.lemmas.List.Folds.{list_any-append}
-use Rattle.uvm_report.specs.Counts.{with_id}
-use Rattle.uvm_report.specs.Commands.{distinct_ids, id_counts}
+use Rattle.uvm_report.proofs.Common.{◌≡◌, ℕ, List, [], ◌∷◌, ◌++◌, Bool, true, false, ◌||◌, nat_eq, filter, map, refl, sym, ap, ◌∙◌, inl, inr, add-one, list_any, pointwise, cases_Bool, and_parts, or_parts, eqb-true, eq-eqb, false≢true, map-append, list_any-append, with_id, distinct_ids, id_counts, length}
 
 -- whether two ids are one
 abbrev same : List ℕ → List ℕ → Bool

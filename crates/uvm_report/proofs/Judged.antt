@@ -1,12 +1,5 @@
 -- What becomes of a report, case by case.
-use Rattle.std.proofs.Common.{◌≡◌, ◌≤◌, ◌<◌, Bool, true, false, ◌||◌}
-use Rattle.std.proofs.lemmas.Bool.Decides.{nat_tests}
-use Rattle.std.proofs.Common.{arith}
-use Rattle.uvm_report.specs.declared.messages.Report.{Report}
-use Rattle.uvm_report.specs.declared.messages.Fate.TheVariants.{Dropped, Silent, Issued}
-use Rattle.uvm_report.specs.Severities.{is_empty}
-use Rattle.uvm_report.specs.Counts.{Counts, with_report}
-use Rattle.uvm_report.specs.Fates.{Ruling, effective_verbosity, fate_of, counts_with}
+use Rattle.uvm_report.proofs.Common.{◌≡◌, ◌≤◌, ◌<◌, Bool, true, false, ◌||◌, nat_tests, arith, Report, Dropped, Silent, Issued, is_empty, Counts, with_report, Ruling, effective_verbosity, fate_of, counts_with}
 
 pub fate-dropped : (report : Report) (ruling : Ruling) (reached : Bool) → ruling.level < effective_verbosity report → fate_of report ruling reached ≡ Dropped
 unfolding fate_of

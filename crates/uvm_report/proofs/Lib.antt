@@ -1,10 +1,11 @@
-pub mod Given
+pub mod Chosen
+pub mod Commanded
+mod Common
 pub mod Counted
+pub mod Given
+pub mod Ids
 pub mod Judged
 pub mod Literals
 pub mod OneMore
-pub mod Ids
-pub mod Commanded
-pub mod Chosen
-pub mod Replaced
 pub mod PlainLines
+pub mod Replaced

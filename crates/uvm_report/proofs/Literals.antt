@@ -1,11 +1,5 @@
 -- What passes its test has no fault, nor has what is shown.
-use Rattle.std.proofs.Common.{◌≡◌, ℕ, ◌≤◌, Bool, true, false, not, List, [], ◌∷◌, length, map, take, nat_lt, Some, None, IsTrue, refl, arith, if◌then◌else◌}
-use Rattle.std.specs.List.{list_all}
-use Rattle.std.proofs.lemmas.Bool.{and_parts}
-use Rattle.std.proofs.lemmas.Bool.Decides.{nat_tests}
-use Rattle.std.proofs.lemmas.List.{length-map, length-take, take_all}
-use Rattle.uvm_report.specs.declared.faults.TextFault.TheVariants.{BadByte, TooLong}
-use Rattle.uvm_report.specs.Texts.{byte_shown, is_text, is_text_byte, lossy, text_fault}
+use Rattle.uvm_report.proofs.Common.{◌≡◌, ℕ, ◌≤◌, Bool, true, false, not, List, [], ◌∷◌, map, take, None, IsTrue, refl, arith, if◌then◌else◌, list_all, and_parts, nat_tests, length-map, length-take, take_all, BadByte, TooLong, byte_shown, is_text, is_text_byte, lossy, text_fault, length, nat_lt, Some}
 
 pub text_sound : (bytes : List ℕ) → IsTrue (is_text bytes) → text_fault bytes ≡ None
 unfolding text_fault

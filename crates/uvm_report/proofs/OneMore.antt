@@ -1,4 +1,4 @@
 -- One more line of a list.
-use Rattle.std.proofs.lemmas.List.{take_more, flat_map_more}
+use Rattle.uvm_report.proofs.Common.{take_more, flat_map_more}
 
 pub ruleset one_more = (take_more, flat_map_more)

@@ -1,21 +1,5 @@
 -- The lines of reports and of the summary are lines of a transcript.
-use Rattle.std.proofs.Common.{◌≡◌, ◌+◌, ◌<◌, get_or, take, subst, sym, ℕ, Bool, true, false, not, ◌==◌, List, [], ◌∷◌, ◌++◌, None, refl, ◌∙◌, codes, if◌then◌else◌}
-use Rattle.std.specs.Prelude.{nat_lt, length, Some}
-use Rattle.std.specs.Fmt.{decimal}
-use Rattle.std.specs.List.{list_all, flat_map}
-use Rattle.std.proofs.lemmas.Bool.{and_from, not-false}
-use Rattle.std.proofs.lemmas.Grind.{flat_map-append}
-use Rattle.std.proofs.lemmas.List.{append-nil, take_more}
-use Rattle.std.proofs.lemmas.List.Folds.{list_all-append}
-use Rattle.uvm_glob.specs.Printed.{IsPrinted, is_printed_byte}
-use Rattle.uvm_report.specs.declared.severities.Severity.{Severity}
-use Rattle.uvm_report.specs.declared.severities.Severity.TheVariants.{Info, Warning, Error, Fatal}
-use Rattle.uvm_report.specs.declared.faults.TextFault.TheVariants.{TooLong, BadByte}
-use Rattle.uvm_report.specs.Counts.{Counts, number_of}
-use Rattle.uvm_report.specs.Severities.{severity_text}
-use Rattle.uvm_report.specs.Texts.{is_text_byte, text_fault}
-use Rattle.uvm_report.specs.Lines.{line, report_line, severity_line, id_line, limit_line, severities, summary_text}
-use Rattle.uvm_report.specs.Plain.{ArePlainLines, begins_plain, plain-append, plain-none, plain-one}
+use Rattle.uvm_report.proofs.Common.{◌≡◌, ◌+◌, ◌<◌, get_or, take, subst, sym, ℕ, Bool, true, false, not, ◌==◌, List, [], ◌∷◌, ◌++◌, None, refl, ◌∙◌, codes, if◌then◌else◌, decimal, list_all, flat_map, and_from, not-false, flat_map-append, append-nil, take_more, list_all-append, IsPrinted, is_printed_byte, Severity, Info, Warning, Error, Fatal, TooLong, BadByte, Counts, number_of, severity_text, is_text_byte, text_fault, line, report_line, severity_line, id_line, limit_line, severities, summary_text, ArePlainLines, begins_plain, plain-append, plain-none, plain-one, nat_lt, length, Some}
 
 -- two printed texts
 pub printed-append : (front back : List ℕ) → IsPrinted front → IsPrinted back → IsPrinted (front ++ back)

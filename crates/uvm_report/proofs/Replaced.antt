@@ -1,26 +1,9 @@
 -- What a setting does that takes the place of the one that was for the same.
-use Rattle.std.proofs.Common.{◌≡◌, ℕ, suc, ◌+◌, List, [], ◌∷◌, ◌++◌, length, reverse, slice_get, insert, remove, Bool, true, false, Option, Some, None, ◌⊎◌, nat_eq, map, filter, option_map, refl, ap, ◌∙◌, sym, inl, inr, arith}
-use Rattle.std.specs.List.{position_or_len}
-use Rattle.std.specs.Option.{option_map_or}
-use Rattle.std.specs.Map.{keys_of, remove_entry}
-use Rattle.std.specs.Cmp.Lexicographic.{pointwise, bytes_decides}
-use Rattle.std.proofs.lemmas.Bool.{cases_Bool, false≢true, and_parts}
-use Rattle.std.proofs.lemmas.Bool.Decides.{nat_tests}
-use Rattle.std.proofs.lemmas.List.Edits.{insert_end}
-use Rattle.std.proofs.lemmas.List.{append-nil, map-append, reverse-append}
-use Rattle.indexmap.specs.IndexMap.{insert_entry, move_index, index_before}
-use Rattle.uvm_glob.specs.Lists.{newest, first_given}
-use Rattle.uvm_report.specs.declared.severities.Severity.{Severity}
-use Rattle.uvm_report.specs.declared.severities.Severity.TheVariants.{Info, Warning, Error, Fatal}
-use Rattle.uvm_report.specs.declared.settings.Which.{Which}
+use Rattle.uvm_report.proofs.Common.{◌≡◌, ℕ, suc, ◌+◌, List, [], ◌∷◌, ◌++◌, reverse, slice_get, insert, remove, Bool, true, false, Option, None, ◌⊎◌, nat_eq, map, filter, option_map, refl, ap, ◌∙◌, sym, inl, inr, arith, position_or_len, option_map_or, keys_of, remove_entry, pointwise, bytes_decides, cases_Bool, false≢true, and_parts, nat_tests, insert_end, append-nil, map-append, reverse-append, insert_entry, move_index, index_before, newest, first_given, Severity, Info, Warning, Error, Fatal, Which, ReportScope, after_setting, Setting, applies, is_of, classes, choice_of, choice_among, setting_of, length, Some}
 use Rattle.uvm_report.specs.declared.settings.Which.TheVariants as which
-use Rattle.uvm_report.specs.declared.settings.Reach.{Reach}
 use Rattle.uvm_report.specs.contracts.severities.SeverityPartialEq.TheImpl as severity_eq
 use Rattle.uvm_report.specs.contracts.settings.WhichPartialEq.TheImpl as which_eq
-use Rattle.uvm_report.specs.contracts.settings.ReachPartialEq.TheImpl as reach_eq
-use Rattle.uvm_report.specs.Choice.{after_setting}
-use Rattle.uvm_report.specs.Settings.{Setting, applies, is_of, classes, choice_of, choice_among}
-use Rattle.uvm_report.specs.Reaches.{setting_of}
+use Rattle.uvm_report.specs.contracts.settings.ReportScopePartialEq.TheImpl as report_scope_eq
 use Rattle.uvm_report.proofs.Given.{choice-given, reverse-entry}
 
 -- what `==` gives, of severities, of what names reports, and of what settings are for: two that are the same are equal
@@ -30,8 +13,8 @@ same_severities = (severity_eq.ghosts).eq
 abbrev same_which : Which → Which → Bool
 same_which = (which_eq.ghosts).eq
 
-abbrev same_reach : Reach → Reach → Bool
-same_reach = (reach_eq.ghosts).eq
+abbrev same_report_scope : ReportScope → ReportScope → Bool
+same_report_scope = (report_scope_eq.ghosts).eq
 
 equal-severities : (a b : Severity) → same_severities a b ≡ true → a ≡ b
 equal-severities Info Info same = refl
@@ -49,8 +32,8 @@ equal-which (which.Both a a_id) (which.Both b b_id) same =
     ap (λ named. which.Both named a_id) (equal-severities a b both.0) ∙ ap (λ named_id. which.Both b named_id) ((bytes_decides a_id b_id).0 both.1)
 equal-which a b same = absurd (false≢true same)
 
-pub equal-reach : (a b : Reach) → same_reach a b ≡ true → a ≡ b
-equal-reach a b same =
+pub equal-report_scope : (a b : ReportScope) → same_report_scope a b ≡ true → a ≡ b
+equal-report_scope a b same =
     let both = and_parts (pointwise nat_eq a.scope b.scope) (same_which a.which b.which) same in
     λ i. record { scope = (bytes_decides a.scope b.scope).0 both.0 i; which = equal-which a.which b.which both.1 i }
 
@@ -105,39 +88,39 @@ move_index-later {X} x xs i j = let one : 1 + i ≡ suc i = omega arith in rw on
     by (Some y) = refl
 
 -- entries, by a test of what they are for that passes at equal ones alone
-module _ {A : Type 0} (eq : Reach → Reach → Bool) (equal : (a b : Reach) → eq a b ≡ true → a ≡ b) (reach : Reach) (value : A) where
+module _ {A : Type 0} (eq : ReportScope → ReportScope → Bool) (equal : (a b : ReportScope) → eq a b ≡ true → a ≡ b) (report_scope : ReportScope) (value : A) where
   -- an entry that is put before the end stands last, without the one that was for the same
-  moved-last : (es : List (Reach × A))
-      → move_index (insert_entry eq es reach value) (position_or_len (eq reach) (keys_of es)) (index_before (position_or_len (eq reach) (keys_of es)) (length es)) ≡ remove_entry (eq reach) es ++ (reach, value) ∷ []
+  moved-last : (es : List (ReportScope × A))
+      → move_index (insert_entry eq es report_scope value) (position_or_len (eq report_scope) (keys_of es)) (index_before (position_or_len (eq report_scope) (keys_of es)) (length es)) ≡ remove_entry (eq report_scope) es ++ (report_scope, value) ∷ []
   moved-last [] = refl
-  moved-last (e ∷ es) = elim (cases_Bool (eq reach e.0)) [
-    | inl here ↦ rw (here, first-before (length es)) (insert_end es (e.0, value) ∙ ap (λ r. es ++ (r, value) ∷ []) (sym (equal reach e.0 here)))
+  moved-last (e ∷ es) = elim (cases_Bool (eq report_scope e.0)) [
+    | inl here ↦ rw (here, first-before (length es)) (insert_end es (e.0, value) ∙ ap (λ r. es ++ (r, value) ∷ []) (sym (equal report_scope e.0 here)))
     | inr other ↦
-        let i : ℕ = position_or_len (eq reach) (keys_of es) in
-        rw (other, later-before i (length es), move_index-later e (insert_entry eq es reach value) i (index_before i (length es))) (ap (λ l. e ∷ l) (moved-last es))
+        let i : ℕ = position_or_len (eq report_scope) (keys_of es) in
+        rw (other, later-before i (length es), move_index-later e (insert_entry eq es report_scope value) i (index_before i (length es))) (ap (λ l. e ∷ l) (moved-last es))
   ]
 
   -- that one makes no difference
-  choice-removed : (es : List (Reach × A)) (older : List (Setting A)) (text : List ℕ) (severity : Severity) (id : List ℕ)
-      → choice_among (setting_of (reach, value) ∷ reverse (map setting_of (remove_entry (eq reach) es)) ++ older) text severity id
-      ≡ choice_among (setting_of (reach, value) ∷ reverse (map setting_of es) ++ older) text severity id
+  choice-removed : (es : List (ReportScope × A)) (older : List (Setting A)) (text : List ℕ) (severity : Severity) (id : List ℕ)
+      → choice_among (setting_of (report_scope, value) ∷ reverse (map setting_of (remove_entry (eq report_scope) es)) ++ older) text severity id
+      ≡ choice_among (setting_of (report_scope, value) ∷ reverse (map setting_of es) ++ older) text severity id
   choice-removed [] older text severity id = refl
-  choice-removed (e ∷ es) older text severity id = elim (cases_Bool (eq reach e.0)) [
+  choice-removed (e ∷ es) older text severity id = elim (cases_Bool (eq report_scope e.0)) [
     | inl here ↦
-        let is : e.0 ≡ reach = sym (equal reach e.0 here) in
-        rw (here, reverse-entry e es older) (sym (choice-without (setting_of (reach, value)) (setting_of e) (reverse (map setting_of es)) older (ap (λ r. r.scope) is) (ap (λ r. r.which) is) text severity id))
-    | inr other ↦ rw (other, reverse-entry e (remove_entry (eq reach) es) older, reverse-entry e es older) (choice-removed es (setting_of e ∷ older) text severity id)
+        let is : e.0 ≡ report_scope = sym (equal report_scope e.0 here) in
+        rw (here, reverse-entry e es older) (sym (choice-without (setting_of (report_scope, value)) (setting_of e) (reverse (map setting_of es)) older (ap (λ r. r.scope) is) (ap (λ r. r.which) is) text severity id))
+    | inr other ↦ rw (other, reverse-entry e (remove_entry (eq report_scope) es) older, reverse-entry e es older) (choice-removed es (setting_of e ∷ older) text severity id)
   ]
 
   -- the choice after that
-  pub choice-moved : (es : List (Reach × A)) (text : List ℕ) (severity : Severity) (id : List ℕ)
-      → choice_among (reverse (map setting_of (move_index (insert_entry eq es reach value) (position_or_len (eq reach) (keys_of es)) (index_before (position_or_len (eq reach) (keys_of es)) (length es))))) text severity id
-      ≡ after_setting reach.scope reach.which value text severity id (choice_among (reverse (map setting_of es)) text severity id)
+  pub choice-moved : (es : List (ReportScope × A)) (text : List ℕ) (severity : Severity) (id : List ℕ)
+      → choice_among (reverse (map setting_of (move_index (insert_entry eq es report_scope value) (position_or_len (eq report_scope) (keys_of es)) (index_before (position_or_len (eq report_scope) (keys_of es)) (length es))))) text severity id
+      ≡ after_setting report_scope.scope report_scope.which value text severity id (choice_among (reverse (map setting_of es)) text severity id)
   choice-moved es text severity id =
-      let s : Setting A = setting_of (reach, value) in
-      let others : List (Reach × A) = remove_entry (eq reach) es in
+      let s : Setting A = setting_of (report_scope, value) in
+      let others : List (ReportScope × A) = remove_entry (eq report_scope) es in
       ap (λ l. choice_among (reverse (map setting_of l)) text severity id) (moved-last es)
-      ∙ ap (λ l. choice_among (reverse l) text severity id) (map-append setting_of others ((reach, value) ∷ []))
+      ∙ ap (λ l. choice_among (reverse l) text severity id) (map-append setting_of others ((report_scope, value) ∷ []))
       ∙ ap (λ l. choice_among l text severity id) (reverse-append (map setting_of others) (s ∷ []))
       ∙ (simp append-nil at (choice-removed es [] text severity id))
       ∙ choice-given s (reverse (map setting_of es)) text severity id

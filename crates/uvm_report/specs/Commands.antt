@@ -1,4 +1,4 @@
--- What some commands to reports come to, the newest command first.
+-- The results of some commands to a report server, newest command first.
 use Rattle.std.specs.Prelude.{ℕ, Bool, true, false, List, [], ◌∷◌, ◌++◌, length, Option, Some, None, nat_eq, filter, map, unwrap_or, if◌then◌else◌}
 use Rattle.std.specs.List.{filter_map, cons_option, list_any}
 use Rattle.std.specs.Cmp.Lexicographic.{pointwise}
@@ -12,12 +12,12 @@ use Rattle.uvm_report.specs.declared.settings.Which.TheVariants as which
 use Rattle.uvm_report.specs.declared.messages.Report.{Report}
 use Rattle.uvm_report.specs.declared.messages.Fate.{Fate}
 use Rattle.uvm_report.specs.Severities.{same_severity}
-use Rattle.uvm_report.specs.Choice.{Lookup}
+use Rattle.uvm_report.specs.ChosenValue.{Lookup}
 use Rattle.uvm_report.specs.Settings.{Setting, choice_among}
 use Rattle.uvm_report.specs.Counts.{Counts}
 use Rattle.uvm_report.specs.Fates.{Ruling, ruling_by, is_issued, is_reached, fate_of, asks_exit}
 
--- what is asked of reports. Scopes match whole paths
+-- a command to a report server; scopes match whole paths
 pub data Command : Type 0 where
   SetVerbosity : (scope : List ℕ) (which : Which) (level : ℕ) → Command
   SetAction : (scope : List ℕ) (which : Which) (actions : Actions) → Command
@@ -25,7 +25,7 @@ pub data Command : Type 0 where
   SetQuitLimit : (limit : ℕ) → Command
   Issue : (path : List (List ℕ)) (report : Report) → Command
 
--- the reports whose severity is changed: those of a severity, or of it and an id
+-- the reports whose severity is changed: those of a severity, or those of a severity with an id
 abbrev pub which_from : Severity → Option (List ℕ) → Which
 which_from from None = which.Severity from
 which_from from (Some id) = which.Both from id
@@ -50,20 +50,20 @@ abbrev pub limit_in : Command → Option ℕ
 limit_in (SetQuitLimit limit) = Some limit
 limit_in command = None
 
--- what is chosen at a path's text among the settings of one sort
+-- the choice at a path's text among the settings of one kind that some commands make
 abbrev pub chosen : {A : Type 0} → (Command → Option (Setting A)) → List Command → List ℕ → Lookup A
 chosen sort commands text = choice_among (filter_map sort commands) text
 
--- the quit limit: the last that was set, else 0 for none
+-- the quit limit: the last that was set, or 0 for none
 abbrev pub quit_limit : List Command → ℕ
 quit_limit commands = unwrap_or (newest (filter_map limit_in commands)) 0
 
--- what the commands say of a report at a path
+-- the ruling for a report at a path: the severity, level and actions that the settings of some commands determine
 abbrev pub given_ruling : List Command → List (List ℕ) → Report → Ruling
 given_ruling commands path report =
     ruling_by (chosen severity_in commands (path_text path)) (chosen level_in commands (path_text path)) (chosen actions_in commands (path_text path)) report
 
--- a report that was issued: its severity, its id, and whether it has action count
+-- a report that was issued: its severity, its id, and whether it has the action `count`
 pub record IssuedReport : Type 0 where
   pub severity : Severity
   pub id : List ℕ
@@ -74,12 +74,12 @@ abbrev pub issued_as : Report → Ruling → Option IssuedReport
 issued_as report ruling =
     if is_issued report ruling then Some (record { severity = ruling.severity; id = report.id; count = ruling.actions.count }) else None
 
--- the report that a command issues, if any, by what the commands before it say
+-- the report that a command issues, if any, by the settings of the commands before it
 abbrev pub issued_in : List Command → Command → Option IssuedReport
 issued_in older (Issue path report) = issued_as report (given_ruling older path report)
 issued_in older command = None
 
--- the reports that some commands issue, the newest first, each by what the commands before it say
+-- the reports that some commands issue, newest first, each by the settings of the commands before it
 abbrev pub issued_reports : List Command → List IssuedReport
 issued_reports [] = []
 issued_reports (command ∷ older) = cons_option (issued_in older command) (issued_reports older)
@@ -96,16 +96,16 @@ quit_count issued = length (filter (λ report. report.count) issued)
 unfoldable pub quit_total : List Command → ℕ
 quit_total commands = quit_count (issued_reports commands)
 
--- some ids, the newest first: each of them once, in the order in which they first came
+-- each of some ids once, in the order in which they first occurred; the list of ids is newest first
 abbrev pub distinct_ids : List (List ℕ) → List (List ℕ)
 distinct_ids [] = []
 distinct_ids (id ∷ older) = if list_any (pointwise nat_eq id) older then distinct_ids older else distinct_ids older ++ id ∷ []
 
--- each with how often it came
+-- each of some ids with the number of its occurrences
 abbrev pub id_counts : List (List ℕ) → List (List ℕ × ℕ)
 id_counts ids = map (λ id. (id, length (filter (pointwise nat_eq id) ids))) (distinct_ids ids)
 
--- the counts of some reports that were issued
+-- the counts of some issued reports
 abbrev pub counts_in : List IssuedReport → Counts
 counts_in issued = record {
   info = severity_count Info issued;
@@ -116,30 +116,30 @@ counts_in issued = record {
   quit = quit_count issued;
 }
 
--- the counts after some commands
+-- the counts of issued reports after some commands
 unfoldable pub report_counts : List Command → Counts
 report_counts commands = counts_in (issued_reports commands)
 
--- a command issues a report
+-- whether a command is an `Issue` command
 abbrev pub is_issue : Command → Bool
 is_issue (Issue path report) = true
 is_issue command = false
 
--- what becomes of a report after some commands
+-- how a report at a path is handled after some commands
 abbrev pub report_fate : List Command → List (List ℕ) → Report → Fate
 report_fate commands path report =
     fate_of report (given_ruling commands path report) (is_reached (quit_limit commands) (quit_total (Issue path report ∷ commands)))
 
--- what became of the report of a command, if it issues one
+-- how the report of a command is handled, if the command has one
 abbrev pub fate_in : List Command → Command → Option Fate
 fate_in older (Issue path report) = Some (report_fate older path report)
 fate_in older command = None
 
--- what became of each report that some commands issue, the newest first
+-- how each report of some commands is handled, newest first
 abbrev pub fates_of : List Command → List Fate
 fates_of [] = []
 fates_of (command ∷ older) = cons_option (fate_in older command) (fates_of older)
 
--- one of the reports asked for the end of the run
+-- whether a report of some commands asked for the end of the run
 abbrev pub is_exit_asked : List Command → Bool
 is_exit_asked commands = list_any asks_exit (fates_of commands)

@@ -6,22 +6,22 @@ use Rattle.uvm_report.specs.declared.messages.Fate.TheVariants.{Issued}
 use Rattle.uvm_report.specs.Counts.{issued_number, Agree}
 use Rattle.uvm_report.specs.Fates.{is_reached}
 use Rattle.uvm_report.specs.Commands.{Command, is_issue, quit_limit, report_counts, report_fate}
-use Rattle.uvm_report.specs.Observed.{Kept}
-use Rattle.uvm_report.specs.Changes.{fate_at, IsAfter, IsNew, Gives}
+use Rattle.uvm_report.specs.Observed.{Representation}
+use Rattle.uvm_report.specs.Changes.{fate_at, IsAfter, IsNew, ReportsAgree}
 
--- what is given at first is what no command comes to
+-- the law that a new report server agrees with the empty list of commands
 abbrev pub NewGivesNothing : Type 0
-NewGivesNothing = (kept : Kept) → IsNew kept → Gives kept []
+NewGivesNothing = (kept : Representation) → IsNew kept → ReportsAgree kept []
 
--- where what is given is what some commands come to, so it is after one more
+-- the law that a report server which agrees with some commands agrees, after one more, with these and that one
 abbrev pub CommandsAreGiven : Type 0
-CommandsAreGiven = (command : Command) (older : List Command) (old new : Kept) → Gives old older → IsAfter command old new → Gives new (command ∷ older)
+CommandsAreGiven = (command : Command) (older : List Command) (old new : Representation) → ReportsAgree old older → IsAfter command old new → ReportsAgree new (command ∷ older)
 
--- then what becomes of a report is what becomes of it after these commands
+-- the law that a report server which agrees with some commands handles each report as these commands determine
 abbrev pub FatesAreGiven : Type 0
-FatesAreGiven = (kept : Kept) (commands : List Command) → Gives kept commands → (path : List (List ℕ)) (report : Report) → fate_at kept path report ≡ report_fate commands path report
+FatesAreGiven = (kept : Representation) (commands : List Command) → ReportsAgree kept commands → (path : List (List ℕ)) (report : Report) → fate_at kept path report ≡ report_fate commands path report
 
--- the counts agree, and no more reports are issued than commands issue one
+-- the counts agree, and the number of issued reports is at most the number of `Issue` commands
 pub record AreCounted (commands : List Command) : Type 0 where
   pub agree : Agree (report_counts commands)
   pub few : issued_number (report_counts commands) ≤ length (filter is_issue commands)
@@ -30,7 +30,7 @@ pub record AreCounted (commands : List Command) : Type 0 where
 abbrev pub CommandsAreCounted : Type 0
 CommandsAreCounted = (commands : List Command) → AreCounted commands
 
--- once the quit count has reached the limit, each report that is issued asks for the end of the run
+-- the law that, once the quit count has reached the limit, each issued report asks for the end of the run
 abbrev pub ReachedLimitEndsRuns : Type 0
 ReachedLimitEndsRuns =
     (commands : List Command) (path : List (List ℕ)) (report : Report) (severity : Severity) (display exit : Bool)

@@ -1,12 +1,12 @@
 pub mod Severities
 pub mod Texts
-pub mod Choice
+pub mod ChosenValue
 pub mod Settings
-pub mod Reaches
+pub mod ReportScopes
 pub mod Counts
 pub mod Fates
 pub mod Commands
-pub mod Kept
+pub mod Representation
 pub mod Observed
 pub mod Changes
 pub mod Lines

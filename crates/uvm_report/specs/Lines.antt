@@ -7,16 +7,16 @@ use Rattle.uvm_report.specs.declared.severities.Severity.TheVariants.{Info, Warn
 use Rattle.uvm_report.specs.Severities.{severity_text}
 use Rattle.uvm_report.specs.Counts.{Counts, number_of}
 
--- a text with its newline
+-- a text with a newline
 abbrev pub line : List ℕ → List ℕ
 line text = text ++ 10 ∷ []
 
--- `SEVERITY @ TIME: SOURCE [ID] TEXT`
+-- the line of a report: `SEVERITY @ TIME: SOURCE [ID] TEXT`
 unfoldable pub report_line : Severity → ℕ → List ℕ → List ℕ → List ℕ → List ℕ
 report_line severity time source id text =
     line (severity_text severity ++ codes " @ " ++ decimal time ++ codes ": " ++ source ++ codes " [" ++ id ++ codes "] " ++ text)
 
--- `SEVERITY : COUNT`
+-- the line of the summary for a severity: `SEVERITY : COUNT`
 unfoldable pub severity_line : Counts → Severity → List ℕ
 severity_line counts severity = line (severity_text severity ++ codes " : " ++ decimal (number_of counts severity))
 
@@ -24,11 +24,11 @@ severity_line counts severity = line (severity_text severity ++ codes " : " ++ d
 abbrev pub severities : List Severity
 severities = Info ∷ Warning ∷ Error ∷ Fatal ∷ []
 
--- `[ID] COUNT`
+-- the line of the summary for an id: `[ID] COUNT`
 unfoldable pub id_line : List ℕ × ℕ → List ℕ
 id_line counted = line (codes "[" ++ counted.0 ++ codes "] " ++ decimal counted.1)
 
--- `Quit count : COUNT of LIMIT`, where there is a limit
+-- the line of the summary for the quit count: `Quit count : COUNT of LIMIT`, empty if there is no limit
 unfoldable pub limit_line : ℕ → ℕ → List ℕ
 limit_line limit quit = if limit == 0 then [] else line (codes "Quit count : " ++ decimal quit ++ codes " of " ++ decimal limit)
 

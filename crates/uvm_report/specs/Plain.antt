@@ -1,4 +1,4 @@
--- Which texts are whole lines of a transcript.
+-- The texts that are whole lines of a transcript.
 use Rattle.std.specs.Prelude.{◌≡◌, ℕ, Bool, true, not, ◌&&◌, ◌==◌, List, [], ◌∷◌, ◌++◌, refl}
 use Rattle.std.specs.List.{flat_map, list_all}
 use Rattle.std.proofs.Common.{ap, ◌∙◌}
@@ -9,22 +9,22 @@ use Rattle.std.proofs.lemmas.List.Folds.{list_all-append}
 use Rattle.uvm_glob.specs.Printed.{is_printed_byte}
 use Rattle.uvm_report.specs.Lines.{line}
 
--- a text begins neither with `!` (33) nor with `?` (63), with which other lines of a program begin
+-- whether a text begins neither with `!` (33) nor with `?` (63), which begin other lines of a program
 abbrev pub begins_plain : List ℕ → Bool
 begins_plain [] = true
 begins_plain (b ∷ text) = not (b == 33) && not (b == 63)
 
--- a line of a transcript, without its newline: it is printed, and begins so
+-- whether a text is a line of a transcript, without its newline: it consists of printable characters, and `begins_plain` holds
 abbrev pub is_plain : List ℕ → Bool
 is_plain text = list_all is_printed_byte text && begins_plain text
 
--- a text is whole lines of a transcript
+-- a text consists of whole lines of a transcript
 pub record ArePlainLines (text : List ℕ) : Type 0 where
   pub lines : List (List ℕ)
   pub plain : list_all is_plain lines ≡ true
   pub joined : flat_map line lines ≡ text
 
--- no line, one line, and the lines of two texts
+-- the empty text, one line, and two texts of whole lines one after the other are whole lines
 
 pub plain-none : ArePlainLines []
 plain-none = record { lines = []; plain = refl; joined = refl }

@@ -1,4 +1,4 @@
--- Which setting of a list prevails, the newest setting first.
+-- The setting of a list that takes precedence; lists are newest first.
 use Rattle.std.specs.Prelude.{◌≡◌, ◌<◌, ◌≤◌, ◌↔◌, ℕ, Bool, List, [], ◌∷◌, ◌++◌, Option, None, ◌==◌, ◌&&◌, IsTrue, All, IfSome, filter, map, option_map}
 use Rattle.uvm_glob.specs.Globs.{matches}
 use Rattle.uvm_glob.specs.Lists.{newest, first_given}
@@ -6,19 +6,19 @@ use Rattle.uvm_report.specs.declared.severities.Severity.{Severity}
 use Rattle.uvm_report.specs.declared.settings.Which.{Which}
 use Rattle.uvm_report.specs.declared.settings.Class.{Class}
 use Rattle.uvm_report.specs.declared.settings.Class.TheVariants as class
-use Rattle.uvm_report.specs.Choice.{names, class_of, class_number, Choice, Lookup}
+use Rattle.uvm_report.specs.ChosenValue.{names, class_of, class_number, ChosenValue, Lookup}
 
--- a value, for the reports that are named, at the paths that the scope matches
+-- a value for the reports that `which` names, at the paths that `scope` matches
 pub record Setting (A : Type 0) : Type 0 where
   pub scope : List ℕ
   pub which : Which
   pub value : A
 
--- the setting is for reports of a severity and an id at a path's text
+-- whether a setting applies to reports of a severity and an id at a path's text
 abbrev pub applies : {A : Type 0} → List ℕ → Severity → List ℕ → Setting A → Bool
 applies text severity id setting = names setting.which severity id && matches setting.scope text
 
--- the settings of a list that are
+-- the settings of a list that apply to reports of a severity and an id at a path's text
 abbrev pub settings_for : {A : Type 0} → List (Setting A) → List ℕ → Severity → List ℕ → List (Setting A)
 settings_for settings text severity id = filter (applies text severity id) settings
 
@@ -26,19 +26,19 @@ settings_for settings text severity id = filter (applies text severity id) setti
 abbrev pub classes : List Class
 classes = class.SeverityAndId ∷ class.Id ∷ class.Severity ∷ class.All ∷ []
 
--- the setting is of a class
+-- whether a setting is of a class
 abbrev pub is_of : {A : Type 0} → Class → Setting A → Bool
 is_of class setting = class_number (class_of setting.which) == class_number class
 
--- of some settings the last of the first class that has one
+-- the newest of some settings in the first class that has one
 abbrev pub last_of_first_class : {A : Type 0} → List (Setting A) → Option (Setting A)
 last_of_first_class settings = first_given (map (λ class. newest (filter (is_of class) settings)) classes)
 
--- the choice of a setting
-abbrev pub choice_of : {A : Type 0} → Setting A → Choice A
+-- the choice of a setting: its class and its value
+abbrev pub choice_of : {A : Type 0} → Setting A → ChosenValue A
 choice_of setting = record { class = class_of setting.which; value = setting.value }
 
--- the choice among some settings: of those that are for a severity and an id at a path's text, the last of the first class that has one
+-- the choice among some settings: of those that apply to a severity and an id at a path's text, the newest in the first class that has one
 unfoldable pub choice_among : {A : Type 0} → List (Setting A) → List ℕ → Lookup A
 choice_among settings text severity id = option_map choice_of (last_of_first_class (settings_for settings text severity id))
 
@@ -50,14 +50,14 @@ IsBefore a b = class_number (class_of a.which) < class_number (class_of b.which)
 abbrev pub IsNotAfter : {A : Type 0} → Setting A → Setting A → Type 0
 IsNotAfter a b = class_number (class_of a.which) ≤ class_number (class_of b.which)
 
--- a setting with those that were set after and before it: it applies, each that was set later and applies is of a later class, and none that
--- was set earlier and applies is of an earlier one
+-- a setting takes precedence: it applies, each newer setting that applies is of a later class, and no older setting that applies is of an
+-- earlier class
 pub record Prevails {A : Type 0} (text : List ℕ) (severity : Severity) (id : List ℕ) (newer : List (Setting A)) (setting : Setting A) (older : List (Setting A)) : Type 0 where
   pub applies_itself : IsTrue (applies text severity id setting)
   pub over_newer : All (λ other. IsTrue (applies text severity id other) → IsBefore setting other) newer
   pub over_older : All (λ other. IsTrue (applies text severity id other) → IsNotAfter setting other) older
 
--- a choice is that of a setting of the list which prevails
+-- the law that a choice is that of a setting of the list that takes precedence
 abbrev pub ChoicePrevails : Type 0 → Type 0
 ChoicePrevails A =
     (settings : List (Setting A)) (text : List ℕ) (severity : Severity) (id : List ℕ)
@@ -65,7 +65,7 @@ ChoicePrevails A =
     (newer : List (Setting A)) × (setting : Setting A) × (older : List (Setting A))
     × (settings ≡ newer ++ setting ∷ older) × Prevails text severity id newer setting older × (choice_of setting ≡ choice))
 
--- there is no choice exactly where no setting applies
+-- the law that there is no choice exactly if no setting applies
 abbrev pub NoChoiceWhereNoneApplies : Type 0 → Type 0
 NoChoiceWhereNoneApplies A =
     (settings : List (Setting A)) (text : List ℕ) (severity : Severity) (id : List ℕ)

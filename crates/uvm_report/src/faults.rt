@@ -1,18 +1,17 @@
-//! Why a text is refused.
+//! The errors of creating a text.
 
 use std::alloc::AllocError;
 use std::error::Error;
 use std::fmt;
 
-/// Why some bytes are no text of a report. The variants stand in the order in which they are looked for, each over all
-/// bytes.
+/// The reasons why some bytes are not the text of a report, in the order in which they are checked. Each check covers all bytes.
 #[derive(Clone, Copy, Debug, PartialEq, Eq)]
 pub enum TextFault {
     /// There are more than 200 bytes.
     TooLong,
-    /// A byte is not one of 0x20 to 0x7E.
+    /// A byte is not from 0x20 to 0x7E.
     BadByte,
-    /// Memory was refused.
+    /// An allocation failed.
     Memory,
 }
 

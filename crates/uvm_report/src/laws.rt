@@ -1,39 +1,39 @@
-//! Laws of the definitions: what they say, in other words. The functions do nothing; their contracts are the laws.
+//! Laws of the definitions. These functions have no run-time effect; their contracts are the laws.
 
 ghost use Rattle.uvm_report.specs.Settings.{ChoicePrevails, NoChoiceWhereNoneApplies};
 ghost use Rattle.uvm_report.specs.Laws.{NewGivesNothing, CommandsAreGiven, FatesAreGiven, CommandsAreCounted, ReachedLimitEndsRuns};
 
-/// What reports give at first is what no command comes to.
+/// The law that a new report server agrees with the empty list of commands.
 pub fn new_gives_nothing()
     ensures { NewGivesNothing }
 {}
 
-/// What reports give after some commands, one by one, is what these come to: one more command changes the definitions over
-/// the list as the clauses of the calls say.
+/// The law that, if a report server agrees with some commands, it agrees with them and one more after that command. So the definitions
+/// over the list of commands change as the contracts of the calls state.
 pub fn commands_are_given()
     ensures { CommandsAreGiven }
 {}
 
-/// Then what becomes of a report is what becomes of it after these commands.
+/// The law that a report server which agrees with some commands handles each report as these commands determine.
 #[tactic(auto, using(crate::proofs::Commanded::fates_are_given))]
 pub fn fates_are_given()
     ensures { FatesAreGiven }
 {}
 
-/// The counts by severity and those by id have one sum, which is at most the number of commands that issue a report, and the
-/// quit count is not above it.
+/// The law that the counts by severity and the counts by id have the same sum. It is at most the number of `Issue` commands, and the quit
+/// count is at most this sum.
 pub fn commands_are_counted()
     ensures { CommandsAreCounted }
 {}
 
-/// Once the quit count has reached the limit, each report that is issued asks for the end of the run.
+/// The law that, once the quit count has reached the limit, each issued report asks for the end of the run.
 #[tactic(auto, using(crate::proofs::Commanded::reached_limit_ends_runs))]
 pub fn reached_limit_ends_runs()
     ensures { ReachedLimitEndsRuns }
 {}
 
-/// A choice is that of a setting of the list that applies, over which no other prevails; and there is one wherever a setting
-/// applies.
+/// The laws of choices: a choice is that of a setting of the list which applies and takes precedence over all others. There is a choice
+/// exactly if a setting applies.
 #[tactic(auto, using(crate::proofs::Chosen::choice_prevails, crate::proofs::Chosen::no_choice_where_none_applies))]
 pub fn choice_prevails<T>()
     ensures prevails { ChoicePrevails T }

@@ -1,4 +1,4 @@
-//! The report server: what becomes of reports, and how many were issued (IEEE 1800.2-2020, Clause 6).
+//! The report server: how each report is handled, and how many reports were issued (IEEE 1800.2-2020, Clause 6).
 #![tactic(auto)]
 
 mod faults;

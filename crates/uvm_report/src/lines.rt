@@ -17,9 +17,9 @@ use uvm_glob::Name;
 use uvm_glob::laws::numbers_are_printed;
 
 impl Report {
-    /// Appends the line of the report, with its newline: `UVM_ERROR @ 30: uvm_test_top [ID] TEXT`, of a severity, after
-    /// changes, a time in ticks, and the text of its source. If the source is printed, so is the line, which begins neither with `!` nor
-    /// with `?`. Errors: out of memory, which appends nothing.
+    /// Appends the line of the report, with its newline, for example `UVM_ERROR @ 30: uvm_test_top [ID] TEXT`. `severity` is the changed
+    /// severity, `time` is in ticks, and `source` is the text of the report's source. If `source` consists of printable characters, so
+    /// does the line, which begins neither with `!` nor with `?`. Errors: out of memory. An error appends nothing.
     #[tactic(auto, using(crate::proofs::PlainLines::report_plain), unfolding(crate::specs::Lines::report_line))]
     pub fn write_line(
         &self,
@@ -47,7 +47,7 @@ impl Report {
     }
 }
 
-// The summary.
+// Appends the summary.
 #[tactic(auto, using(crate::proofs::PlainLines::summary_plain), unfolding(crate::specs::Lines::summary_text))]
 pub(crate) fn push_summary(
     quit_limit: u16,
@@ -66,7 +66,7 @@ pub(crate) fn push_summary(
     Ok(())
 }
 
-// The quit count and the limit, if there is one.
+// Appends the line with the quit count and the limit, if there is a limit.
 #[tactic(auto, using(crate::proofs::PlainLines::limit_plain), unfolding(crate::specs::Lines::limit_line))]
 fn push_limit(limit: u16, quit: u64, text: &mut Vec<u8>) -> Result<(), AllocError>
     ensures text { OnOk result (text.new.items ≡ text.old.items ++ limit_line limit quit) }

@@ -1,4 +1,4 @@
-//! Reports, and what becomes of them.
+//! Reports, and how they are handled.
 
 ghost use Rattle.std.specs.Prelude.{◌≡◌, ◌++◌, IfOk, OnOk, OnErr};
 ghost use Rattle.uvm_report.specs.Fates.{asks_exit, displayed_as, effective_verbosity};
@@ -12,36 +12,36 @@ use uvm_glob::Name;
 /// A report (IEEE 1800.2-2020, Clause 6).
 #[derive(Drop)]
 pub struct Report {
-    /// How severe it is, as it is issued.
+    /// The severity with which the report is issued, before changes.
     pub severity: Severity,
-    /// What it is about.
+    /// The id of the report, which names its subject.
     pub id: Name,
-    /// What it says.
+    /// The message of the report.
     pub text: Text,
-    /// Where it is issued as INFO, the least level at which it is not dropped.
+    /// The verbosity: the lowest level at which the report is not dropped. It matters only if the report is issued as INFO.
     pub verbosity: u16,
 }
 
-/// What becomes of a report.
+/// How a report is handled.
 #[derive(Clone, Copy, PartialEq, Eq)]
 pub enum Fate {
-    /// Its verbosity is above the level.
+    /// The report is dropped: its verbosity is above the level.
     Dropped,
-    /// It has no action, and is not counted.
+    /// The report has no action and is not counted.
     Silent,
-    /// It is issued, and counted.
+    /// The report is issued and counted.
     Issued {
-        /// Its severity, after changes.
+        /// The severity of the report, after changes.
         severity: Severity,
-        /// Its line is to be displayed.
+        /// Whether the line of the report is to be displayed.
         display: bool,
-        /// It asks for the end of the run.
+        /// Whether the report asks for the end of the run.
         exit: bool,
     },
 }
 
 impl Fate {
-    /// The severity, after changes, under which the report is displayed, if it is.
+    /// Returns the severity, after changes, with which the report is displayed, or `None` if it is not displayed.
     pub fn displayed_as(self) -> Option<Severity>
         ensures { result ≡ displayed_as self }
     {
@@ -55,7 +55,7 @@ impl Fate {
         }
     }
 
-    /// Whether the report is issued and asks for the end of the run.
+    /// Returns whether the report is issued and asks for the end of the run.
     pub fn asks_exit(self) -> bool
         ensures { result ≡ asks_exit self }
     {
@@ -67,7 +67,7 @@ impl Fate {
 }
 
 impl Report {
-    /// An equal report. Errors: out of memory.
+    /// Creates an equal report. Errors: out of memory.
     pub fn copy(&self) -> Result<Report, AllocError>
         ensures { IfOk result (λ report. report ≡ self.now) }
     {
@@ -79,7 +79,7 @@ impl Report {
         })
     }
 
-    // The verbosity that matters: its own where it is issued as INFO, else none.
+    // Returns the verbosity that decides: the report's own if it is issued as INFO, otherwise 0.
     pub(crate) fn effective_verbosity(&self) -> u16
         ensures { result ≡ effective_verbosity self.now }
     {

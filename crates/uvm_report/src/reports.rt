@@ -12,26 +12,26 @@ ghost use Rattle.uvm_report.specs.Plain.{ArePlainLines};
 
 use crate::lines::push_summary;
 use crate::messages::{Fate, Report};
-use crate::settings::{Reach, ScopedSettings, Which};
+use crate::settings::{ReportScope, ScopedSettings, Which};
 use crate::severities::{Actions, Severity, verbosity};
 use crate::tallies::Tally;
 use std::alloc::{AllocError, Global};
 use std::marker::Model;
 use uvm_glob::{Glob, Name, Path};
 
-/// The report server: its settings, and how many reports were issued (IEEE 1800.2-2020, Clause 6). Contracts see what
-/// prevails at each path for each severity and id (a severity, a level, actions), the quit limit, and the counts.
+/// The report server: its settings, and the number of issued reports (IEEE 1800.2-2020, Clause 6). Contracts see the severity, level and
+/// actions chosen at each path for each severity and id, the quit limit, and the counts.
 pub struct Reports {
-    // Of each sort the last setting for each scope and the reports that it is for.
+    // The last setting of each kind for each scope and the reports that it names.
     severities: ScopedSettings<Severity>,
     levels: ScopedSettings<u16>,
     actions: ScopedSettings<Actions>,
-    // 0 for none.
+    // The quit limit; 0 means that there is none.
     quit_limit: u16,
     tally: Tally,
 }
 
-// (By hand, so that crates above prove no drop of what it holds.)
+// (Written by hand, so that the crates that use a report server need no proof that its fields are dropped.)
 impl Drop for Reports {
     fn drop(self) {
         let Reports {
@@ -45,9 +45,9 @@ impl Drop for Reports {
 }
 
 impl Model for Reports {
-    ghost use Rattle.uvm_report.specs.Kept.{Kept};
+    ghost use Rattle.uvm_report.specs.Representation.{Representation};
 
-    ghost Value = { Kept };
+    ghost Value = { Representation };
 
     ghost view = { λ r. record {
       severities = r.severities;
@@ -59,9 +59,9 @@ impl Model for Reports {
     } };
 }
 
-#[tactic(auto, using(crate::proofs::Given::given), unfolding(crate::specs::Kept::severity_at, crate::specs::Kept::level_at, crate::specs::Kept::actions_at, crate::specs::Kept::limit_of, crate::specs::Kept::counts_of, crate::specs::Kept::has_room))]
+#[tactic(auto, using(crate::proofs::Given::given), unfolding(crate::specs::Representation::severity_at, crate::specs::Representation::level_at, crate::specs::Representation::actions_at, crate::specs::Representation::limit_of, crate::specs::Representation::counts_of, crate::specs::Representation::has_room))]
 impl Reports {
-    /// No setting, no quit limit, and no report issued.
+    /// Creates a report server without settings, without a quit limit and without issued reports.
     pub fn new(alloc: Global) -> Reports
         ensures { IsNew result }
     {
@@ -74,21 +74,21 @@ impl Reports {
         }
     }
 
-    /// Sets the level for the reports that `which` names at the paths that the scope matches: those of a greater verbosity are
-    /// dropped. Of the settings of one class (`Which`) that are for a report the last that was set prevails. A level takes the
-    /// place of the one that was set with the same scope and `which`. Errors: out of memory, which changes nothing.
+    /// Sets the verbosity level for the reports that `which` names, at the paths that `scope` matches. Reports with a verbosity above the
+    /// level are dropped. If several settings of one class (`Which`) apply to a report, the last one takes precedence. A setting replaces
+    /// the one with the same scope and `which`. Errors: out of memory. An error changes nothing.
     pub fn set_verbosity(&mut self, scope: Glob, which: Which, level: u16) -> Result<(), AllocError>
         ensures ok { OnOk result (IsAfter (SetVerbosity scope which level) self.old self.new) }
         ensures err { OnErr result (IsSame self.old self.new) }
         ensures room { (asked : List ℕ) → has_room self.new asked ≡ has_room self.old asked }
     {
-        self.levels.add(Reach { scope, which }, level)?;
+        self.levels.add(ReportScope { scope, which }, level)?;
         Ok(())
     }
 
-    /// Sets what is done with the reports that `which` names at the paths that the scope matches. Of the settings of one class
-    /// (`Which`) that are for a report the last that was set prevails. Actions take the place of those that were set with the same
-    /// scope and `which`. Errors: out of memory, which changes nothing.
+    /// Sets the actions for the reports that `which` names, at the paths that `scope` matches. If several settings of one class (`Which`)
+    /// apply to a report, the last one takes precedence. A setting replaces the one with the same scope and `which`. Errors: out of
+    /// memory. An error changes nothing.
     pub fn set_action(
         &mut self,
         scope: Glob,
@@ -99,14 +99,14 @@ impl Reports {
         ensures err { OnErr result (IsSame self.old self.new) }
         ensures room { (asked : List ℕ) → has_room self.new asked ≡ has_room self.old asked }
     {
-        self.actions.add(Reach { scope, which }, actions)?;
+        self.actions.add(ReportScope { scope, which }, actions)?;
         Ok(())
     }
 
-    /// Changes the severity of the reports that are issued with the severity `from`, and with the id if one is given, at the
-    /// paths that the scope matches. A change is not changed again. Of the changes that are for a report those with an id go
-    /// before those without, and within each class the last that was set prevails. A change takes the place of the one that was set
-    /// with the same scope, severity and id. Errors: out of memory, which changes nothing.
+    /// Changes the severity of reports at the paths that `scope` matches: those issued with the severity `from`, and with the id if one is
+    /// given. A changed severity is not changed again. Changes with an id take precedence over those without; within each class the last
+    /// one takes precedence. A change replaces the one with the same scope, severity and id. Errors: out of memory. An error changes
+    /// nothing.
     pub fn set_severity(
         &mut self,
         scope: Glob,
@@ -122,12 +122,12 @@ impl Reports {
             None => Which::Severity(from),
             Some(id) => Which::Both(from, id),
         };
-        self.severities.add(Reach { scope, which }, to)?;
+        self.severities.add(ReportScope { scope, which }, to)?;
         Ok(())
     }
 
-    /// Sets how many reports with action count are issued until reports ask for the end of the run: the one that reaches the
-    /// limit does, and each that is issued after it. 0 is no limit. Takes no memory.
+    /// Sets the quit limit; 0 means that there is none. The issued report with which the quit count reaches the limit asks for the end of
+    /// the run. So does each report issued after it. Allocates no memory.
     pub fn set_quit_limit(&mut self, limit: u16)
         ensures after { IsAfter (SetQuitLimit limit) self.old self.new }
         ensures room { (asked : List ℕ) → has_room self.new asked ≡ has_room self.old asked }
@@ -135,8 +135,8 @@ impl Reports {
         self.quit_limit = limit;
     }
 
-    /// Makes room for a report of an id: the next `issue`, of a report of this id, takes no memory. What is set and counted stays
-    /// as it was. Errors: out of memory, which does not come where there is room already.
+    /// Reserves capacity for a report with this id: the next `issue` of such a report then allocates no memory. Changes no setting and no
+    /// count. Errors: out of memory, only if the id was not counted yet and no capacity is reserved for it.
     pub fn reserve_id(&mut self, id: &Name) -> Result<(), AllocError>
         ensures ok { OnOk result (IsTrue (has_room self.new id.now)) }
         ensures same { IsSame self.old self.new }
@@ -145,13 +145,13 @@ impl Reports {
         self.tally.reserve(id)
     }
 
-    /// Judges a report of the component at a path, and counts it if it is issued; fewer than 10^18 were issued before. First its
-    /// severity is changed; the level and the actions are those for the changed severity. It is dropped where its verbosity is
-    /// above the level (a report issued as WARNING, ERROR or FATAL has none), and silent where it has no action. Once the quit
-    /// count has reached the limit, each report that is issued asks for the end of the run. Errors: out of memory, which
-    /// comes only for a report that would be issued, of an id that was not counted yet and for which there is no room; then
-    /// nothing has changed.
-    #[tactic(auto, using(crate::proofs::Judged::judged), unfolding(crate::specs::Kept::severity_at, crate::specs::Kept::level_at, crate::specs::Kept::actions_at, crate::specs::Kept::limit_of, crate::specs::Kept::counts_of, crate::specs::Kept::has_room, crate::specs::Fates::ruling_by))]
+    /// Decides how a report of the component at `path` is handled, and counts it if it is issued. Requires that fewer than 10^18 reports
+    /// were issued. The severity is changed first; the level and the actions are those for the changed severity. The report is dropped if
+    /// its verbosity is above the level. A report issued as WARNING, ERROR or FATAL has no verbosity and is not dropped. The report is
+    /// silent if it has no action. Once the quit count has reached the limit, each issued report asks for the end of the run. Errors: out
+    /// of memory, only if the report would be issued, its id was not counted yet, and no capacity was reserved for it. An error changes
+    /// nothing.
+    #[tactic(auto, using(crate::proofs::Judged::judged), unfolding(crate::specs::Representation::severity_at, crate::specs::Representation::level_at, crate::specs::Representation::actions_at, crate::specs::Representation::limit_of, crate::specs::Representation::counts_of, crate::specs::Representation::has_room, crate::specs::Fates::ruling_by))]
     pub fn issue(&mut self, path: &Path, report: &Report) -> Result<Fate, AllocError>
         requires { issued_number (counts_of self.old) < 10 ^ 18 }
         ensures fate { IfOk result (λ fate. fate ≡ fate_at self.old path.now report.now) }
@@ -177,7 +177,7 @@ impl Reports {
         })
     }
 
-    /// How many reports of a severity, after changes, were issued. Takes no memory.
+    /// Returns the number of issued reports of a severity, after changes of severity. Allocates no memory.
     pub fn count_of(&self, severity: Severity) -> u64
         ensures value { result ≡ number_of (counts_of self.now) severity }
         ensures most { result ≤ 10 ^ 18 }
@@ -185,22 +185,22 @@ impl Reports {
         self.tally.of(severity)
     }
 
-    /// How many reports of an id were issued. Takes no memory.
+    /// Returns the number of issued reports with an id. Allocates no memory.
     pub fn count_of_id(&self, id: &Name) -> u64
         ensures { result ≡ number_of_id (counts_of self.now) id.now }
     {
         self.tally.of_id(id)
     }
 
-    /// How many issued reports had action count. Takes no memory.
+    /// Returns the number of issued reports with the action `count`. Allocates no memory.
     pub fn quit_count(&self) -> u64
         ensures { result ≡ (counts_of self.now).quit }
     {
         self.tally.quit()
     }
 
-    /// Appends the summary: the quit count if there is a limit, and the counts by severity and by id. Each of its lines is printed, and
-    /// begins neither with `!` nor with `?`. Errors: out of memory, which appends nothing.
+    /// Appends the summary: the quit count if there is a limit, and the counts by severity and by id. Each of its lines consists of
+    /// printable characters and begins neither with `!` nor with `?`. Errors: out of memory. An error appends nothing.
     pub fn summary(&self, out: &mut Vec<u8>) -> Result<(), AllocError>
         ensures ok { OnOk result (out.new.items ≡ out.old.items ++ summary_text (limit_of self.now) (counts_of self.now)) }
         ensures err { OnErr result (out.new.items ≡ out.old.items) }
@@ -211,7 +211,7 @@ impl Reports {
         out.extend_from_slice(text.as_slice())
     }
 
-    // The severity, after changes, of a report.
+    // Returns the severity of a report after the change that applies to it, if one does.
     fn severity(&self, path: &Path, issued: Severity, id: &Name) -> Severity
         ensures { result ≡ chosen_or issued (severity_at self.now path.now issued id.now) }
     {
@@ -221,7 +221,7 @@ impl Reports {
         }
     }
 
-    // The greatest verbosity of the reports that are not dropped.
+    // Returns the verbosity level: reports with a greater verbosity are dropped.
     fn level(&self, path: &Path, severity: Severity, id: &Name) -> u16
         ensures { result ≡ chosen_or 200 (level_at self.now path.now severity id.now) }
     {
@@ -231,7 +231,7 @@ impl Reports {
         }
     }
 
-    // What is done with a report.
+    // Returns the actions for a report.
     fn actions(&self, path: &Path, severity: Severity, id: &Name) -> Actions
         ensures { result ≡ chosen_or (default_actions severity) (actions_at self.now path.now severity id.now) }
     {
@@ -241,7 +241,7 @@ impl Reports {
         }
     }
 
-    // Whether there is a quit limit, and the quit count has reached it.
+    // Returns whether there is a quit limit and the quit count has reached it.
     fn is_limit_reached(&self) -> bool
         ensures { result ≡ is_reached (limit_of self.now) (counts_of self.now).quit }
     {

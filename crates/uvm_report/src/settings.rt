@@ -1,8 +1,8 @@
-//! Settings, and which of two prevails.
+//! Settings, and their order of precedence.
 
 ghost use Rattle.std.specs.Prelude.{◌≡◌, ℕ, List, [], OnOk, OnErr, nat_lt};
 ghost use Rattle.uvm_glob.specs.Paths.{path_text};
-ghost use Rattle.uvm_report.specs.Choice.{names, class_of, class_number, after_setting};
+ghost use Rattle.uvm_report.specs.ChosenValue.{names, class_of, class_number, after_setting};
 ghost use Rattle.uvm_report.specs.Settings.{choice_among};
 
 use crate::severities::Severity;
@@ -11,22 +11,22 @@ use std::alloc::{AllocError, Global};
 use std::marker::Model;
 use uvm_glob::{Glob, Name, Path};
 
-/// Which reports a setting is for. Of the settings that are for a report, those of a severity with an id go before those of an
-/// id, these before those of a severity, and these before those of all; within each of these four classes the last that was set
-/// prevails (IEEE 1800.2-2020, Clause 6).
+/// The reports to which a setting applies. Settings of a severity with an id take precedence over those of an id. These take precedence
+/// over those of a severity, and these over those of all reports. Within each of these four classes the last setting takes precedence
+/// (IEEE 1800.2-2020, Clause 6).
 #[derive(Clone, Copy, PartialEq, Eq, Hash)]
 pub enum Which {
     /// All reports.
     All,
-    /// Those of a severity.
+    /// The reports of a severity.
     Severity(Severity),
-    /// Those of an id.
+    /// The reports with an id.
     Id(Name),
-    /// Those of a severity and an id.
+    /// The reports of a severity with an id.
     Both(Severity, Name),
 }
 
-// The classes of settings, in the order of precedence.
+// The classes of settings, in their order of precedence.
 #[derive(Clone, Copy)]
 pub(crate) enum Class {
     SeverityAndId,
@@ -35,14 +35,14 @@ pub(crate) enum Class {
     All,
 }
 
-// What a setting is for: the reports that `which` names, at the whole paths that the scope matches.
+// The scope of a setting: the reports that `which` names, at the whole paths that `scope` matches.
 #[derive(PartialEq, Eq, Hash, Drop)]
-pub(crate) struct Reach {
+pub(crate) struct ReportScope {
     pub scope: Glob,
     pub which: Which,
 }
 
-// Of the setting that prevails its class and its value. Contracts see it as a `Choice`.
+// The class and the value of the setting that takes precedence. Contracts see it as a `ChosenValue`.
 #[derive(Drop)]
 pub(crate) struct Chosen<T> {
     class: Class,
@@ -50,24 +50,24 @@ pub(crate) struct Chosen<T> {
 }
 
 impl<T> Model for Chosen<T> {
-    ghost use Rattle.uvm_report.specs.Choice.{Choice};
+    ghost use Rattle.uvm_report.specs.ChosenValue.{ChosenValue};
 
-    ghost Value = { Choice T };
+    ghost Value = { ChosenValue T };
 
     ghost view = { λ c. record { class = c.class; value = c.value } };
 }
 
-/// Settings of one sort: the value that was last set for each scope and the reports there, in the order in which these were last
-/// set. Contracts see them with the newest first.
+/// The settings of one kind: the last value for each scope and the reports it names, in the order in which these were last set. Contracts
+/// see them newest first.
 #[derive(Drop)]
 pub(crate) struct ScopedSettings<T> {
-    settings: IndexMap<Reach, T>,
+    settings: IndexMap<ReportScope, T>,
 }
 
 impl<T> Model for ScopedSettings<T> {
     ghost use Rattle.std.specs.Prelude.{List, reverse, map};
     ghost use Rattle.uvm_report.specs.Settings.{Setting};
-    ghost use Rattle.uvm_report.specs.Reaches.{setting_of};
+    ghost use Rattle.uvm_report.specs.ReportScopes.{setting_of};
 
     ghost Value = { List (Setting T) };
 
@@ -75,7 +75,7 @@ impl<T> Model for ScopedSettings<T> {
 }
 
 impl<T: Copy> ScopedSettings<T> {
-    /// No settings.
+    /// Creates a list without settings.
     pub fn new(alloc: Global) -> ScopedSettings<T>
         ensures { result ≡ [] }
     {
@@ -84,33 +84,33 @@ impl<T: Copy> ScopedSettings<T> {
         }
     }
 
-    /// Adds a setting, the newest. It takes the place of the one with the same scope that is for the same reports. Errors:
-    /// out of memory, which changes nothing.
-    pub fn add(&mut self, reach: Reach, value: T) -> Result<(), AllocError>
+    /// Adds a setting as the newest one. It replaces the one with the same scope and the same `which`. Errors: out of memory. An error
+    /// changes nothing.
+    pub fn add(&mut self, report_scope: ReportScope, value: T) -> Result<(), AllocError>
         ensures choices { OnOk result ((text : List ℕ) (severity : Severity) (id : List ℕ) →
             choice_among self.new text severity id
-            ≡ after_setting reach.scope reach.which value text severity id (choice_among self.old text severity id)) }
+            ≡ after_setting report_scope.scope report_scope.which value text severity id (choice_among self.old text severity id)) }
         ensures unchanged { OnErr result (self.new ≡ self.old) }
     {
         self.settings
-            .insert_before(self.settings.len(), reach, value)?;
+            .insert_before(self.settings.len(), report_scope, value)?;
         Ok(())
     }
 
-    /// What prevails at a path for a severity and an id, if a setting is for them.
+    /// Returns the class and value of the setting that takes precedence at a path for a severity and an id, if one applies.
     pub fn prevailing(&self, path: &Path, severity: Severity, id: &Name) -> Option<Chosen<T>>
         ensures { result ≡ choice_among self.now (path_text path.now) severity id.now }
     {
         let mut prevailing = None;
-        for (reach, value) in self.settings.iter() {
-            prevailing = stronger(reach, *value, path, severity, id, prevailing);
+        for (report_scope, value) in self.settings.iter() {
+            prevailing = stronger(report_scope, *value, path, severity, id, prevailing);
         }
         prevailing
     }
 }
 
 impl Which {
-    // Whether reports of a severity and an id are among them.
+    // Returns whether `self` names the reports of this severity with this id.
     fn names(&self, severity: Severity, id: &Name) -> bool
         ensures { result ≡ names self.now severity id.now }
     {
@@ -135,7 +135,7 @@ impl Which {
 }
 
 impl Class {
-    // Whether settings of this class go before those of another.
+    // Returns whether settings of this class take precedence over those of `other`.
     fn goes_before(self, other: Class) -> bool
         ensures { result ≡ nat_lt (class_number self) (class_number other) }
     {
@@ -143,10 +143,10 @@ impl Class {
     }
 }
 
-// What prevails of a setting and of what prevails so far, which was set earlier.
-#[tactic(auto, unfolding(crate::specs::Choice::after_setting))]
+// Returns the choice after one more setting: the setting, if it applies and its class permits, otherwise the choice before it.
+#[tactic(auto, unfolding(crate::specs::ChosenValue::after_setting))]
 fn stronger<T: Copy>(
-    later: &Reach,
+    later: &ReportScope,
     value: T,
     path: &Path,
     severity: Severity,

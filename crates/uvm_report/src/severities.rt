@@ -1,53 +1,53 @@
-//! How severe reports are, and what is done with them.
+//! Severities, actions and verbosities.
 
 ghost use Rattle.std.specs.Prelude.{◌≡◌};
 ghost use Rattle.uvm_report.specs.Severities.{severity_name, same_severity, default_actions, is_empty};
 
 use std::fmt;
 
-/// How severe a report is (IEEE 1800.2-2020, Clause 6), from the least to the most.
+/// The severity of a report (IEEE 1800.2-2020, Clause 6), from the lowest to the highest.
 #[derive(Clone, Copy, PartialEq, Eq, Hash)]
 pub enum Severity {
-    /// Something to know. Reports of this severity alone have a verbosity.
+    /// Information. Only reports of this severity have a verbosity.
     Info,
-    /// Something may be wrong.
+    /// A possible problem.
     Warning,
-    /// Something is wrong.
+    /// A problem.
     Error,
-    /// Something is wrong, and the run cannot go on.
+    /// A problem after which the run cannot continue.
     Fatal,
 }
 
-/// What is done with a report: a set of actions (IEEE 1800.2-2020, Clause 6).
+/// The set of actions that are performed for a report (IEEE 1800.2-2020, Clause 6).
 #[derive(Clone, Copy, PartialEq, Eq)]
 pub struct Actions {
-    /// Its line is displayed.
+    /// Whether the line of the report is displayed.
     pub display: bool,
-    /// It counts toward the quit limit.
+    /// Whether the report is counted in the quit count.
     pub count: bool,
-    /// It ends the run.
+    /// Whether the report ends the run.
     pub exit: bool,
 }
 
-/// The verbosities of reports, and levels, that have a name (IEEE 1800.2-2020, Clause 6). A report whose verbosity is above
-/// the level is dropped.
+/// The named verbosities of reports, which are also the named verbosity levels (IEEE 1800.2-2020, Clause 6). A report whose verbosity is
+/// above the level is dropped.
 pub mod verbosity {
-    /// Issued at every level.
+    /// The verbosity of reports that are issued at every level.
     pub const NONE: u16 = 0;
-    /// Issued at the level LOW or above.
+    /// The verbosity of reports that are issued at the level LOW or above.
     pub const LOW: u16 = 100;
-    /// Issued at the level MEDIUM or above, which is the level where no setting says otherwise.
+    /// The verbosity of reports that are issued at the level MEDIUM or above. MEDIUM is the default level.
     pub const MEDIUM: u16 = 200;
-    /// Issued at the level HIGH or above.
+    /// The verbosity of reports that are issued at the level HIGH or above.
     pub const HIGH: u16 = 300;
-    /// Issued at the level FULL or above.
+    /// The verbosity of reports that are issued at the level FULL or above.
     pub const FULL: u16 = 400;
-    /// Issued at the level DEBUG or above.
+    /// The verbosity of reports that are issued at the level DEBUG or above.
     pub const DEBUG: u16 = 500;
 }
 
 impl Severity {
-    /// All severities, from the least to the most.
+    /// All severities, from the lowest to the highest.
     pub const ALL: [Severity; 4] = [
         Severity::Info,
         Severity::Warning,
@@ -55,7 +55,7 @@ impl Severity {
         Severity::Fatal,
     ];
 
-    /// The word for the severity, as `ERROR`.
+    /// Returns the name of the severity without its prefix, for example `ERROR`.
     pub fn name(self) -> &'static str
         ensures { result.now ≡ severity_name self }
     {
@@ -67,8 +67,8 @@ impl Severity {
         }
     }
 
-    /// What is done with a report of this severity where no setting says otherwise: an INFO or a WARNING is displayed, an
-    /// ERROR displayed and counted, a FATAL displayed, and it ends the run.
+    /// Returns the default actions of this severity. All reports are displayed; in addition an ERROR is counted in the quit count, and a
+    /// FATAL ends the run.
     pub fn default_actions(self) -> Actions
         ensures { result ≡ default_actions self }
     {
@@ -79,7 +79,7 @@ impl Severity {
         }
     }
 
-    // Whether the two are one.
+    // Returns whether the two severities are the same.
     pub(crate) fn is(self, other: Severity) -> bool
         ensures { result ≡ same_severity self other }
     {
@@ -87,7 +87,7 @@ impl Severity {
     }
 }
 
-/// The severity as the standard names it, as `UVM_ERROR`.
+/// The severity with the standard's prefix, for example `UVM_ERROR`.
 impl fmt::Display for Severity {
     ghost use Rattle.std.specs.Prelude.{Some};
     ghost use Rattle.uvm_report.specs.Severities.{severity_text};
@@ -101,7 +101,7 @@ impl fmt::Display for Severity {
 }
 
 impl Actions {
-    /// Whether nothing is done. Then a report is not counted either.
+    /// Returns whether the set has no action. A report without an action is not counted.
     pub fn is_empty(self) -> bool
         ensures { result ≡ is_empty self }
     {

@@ -1,4 +1,4 @@
-//! How many reports were issued.
+//! The numbers of issued reports.
 
 ghost use Rattle.std.specs.Prelude.{◌≡◌, ◌≤◌, ◌<◌, ◌^◌, IsTrue, IsFalse, IsOk, OnOk, OnErr, [], nat_eq, unwrap_or, sum_by};
 ghost use Rattle.std.specs.Cmp.Lexicographic.{pointwise};
@@ -11,15 +11,15 @@ use std::alloc::{AllocError, Global};
 use std::marker::Model;
 use uvm_glob::Name;
 
-// The numbers of issued reports. Contracts see them as `Counts`, and beside them how many ids more can be counted without
-// memory.
+// The numbers of issued reports. Contracts see them as `Counts`, together with the number of further ids that can be counted without an
+// allocation.
 #[derive(Drop)]
 pub(crate) struct Tally {
     info: u64,
     warning: u64,
     error: u64,
     fatal: u64,
-    // The numbers of ids, in the order in which these were first counted.
+    // The number of reports of each id, in the order in which the ids were first counted.
     ids: IndexMap<Name, u64>,
     quit: u64,
 }
@@ -41,7 +41,7 @@ impl Model for Tally {
 }
 
 impl Tally {
-    // No report was issued.
+    // Creates a tally without reports.
     pub fn new(alloc: Global) -> Tally
         ensures { result.counts ≡ no_counts }
     {
@@ -55,7 +55,7 @@ impl Tally {
         }
     }
 
-    // Counts one more report.
+    // Counts one more report. Errors: out of memory, only if the id was not counted yet and no capacity is reserved for it.
     #[tactic(auto, unfolding(crate::specs::Counts::with_report))]
     pub fn add(&mut self, severity: Severity, id: &Name, count: bool) -> Result<(), AllocError>
         requires { issued_number self.old.counts < 10 ^ 18 }
@@ -75,7 +75,7 @@ impl Tally {
         Ok(())
     }
 
-    // Makes room for counting an id.
+    // Reserves capacity for counting an id. Errors: out of memory, only if the id was not counted yet and no capacity is reserved for it.
     pub fn reserve(&mut self, id: &Name) -> Result<(), AllocError>
         ensures ok { OnOk result (IsTrue (can_count self.new.counts self.new.spare id.now)) }
         ensures counts { self.new.counts ≡ self.old.counts }
@@ -87,7 +87,7 @@ impl Tally {
         self.ids.reserve(1)
     }
 
-    // How many reports of a severity were issued.
+    // Returns the number of issued reports of a severity.
     pub fn of(&self, severity: Severity) -> u64
         ensures value { result ≡ number_of self.now.counts severity }
         ensures most { result ≤ 10 ^ 18 }
@@ -100,21 +100,21 @@ impl Tally {
         }
     }
 
-    // How many reports of an id were issued.
+    // Returns the number of issued reports with an id.
     pub fn of_id(&self, id: &Name) -> u64
         ensures { result ≡ number_of_id self.now.counts id.now }
     {
         self.ids.get(id).copied().unwrap_or(0)
     }
 
-    // How many issued reports had action count.
+    // Returns the number of issued reports with the action `count`.
     pub fn quit(&self) -> u64
         ensures { result ≡ self.now.counts.quit }
     {
         self.quit
     }
 
-    // The ids with their numbers, in the order in which they were first counted.
+    // Returns the ids with their numbers, in the order in which the ids were first counted.
     pub fn ids(&self) -> &IndexMap<Name, u64>
         ensures { result.now.entries ≡ self.now.counts.ids }
     {
@@ -122,7 +122,7 @@ impl Tally {
     }
 }
 
-// Counts an id once more.
+// Counts one more report with an id. Errors: out of memory, only if the id is new and there is no capacity for it.
 fn add_id(ids: &mut IndexMap<Name, u64>, id: &Name) -> Result<(), AllocError>
     requires { sum_by (λ counted. counted.1) ids.old.entries < 10 ^ 18 }
     ensures ok { OnOk result (ids.new.entries ≡ with_id id.now ids.old.entries) }

@@ -8,7 +8,7 @@ use crate::faults::TextFault;
 use std::alloc::{AllocError, Global};
 use std::marker::Model;
 
-/// The text of a report: at most 200 bytes of 0x20 to 0x7E. Contracts see its bytes.
+/// The text of a report: at most 200 bytes, each from 0x20 to 0x7E. Contracts see its bytes.
 #[derive(Drop)]
 pub struct Text {
     bytes: Vec<u8>,
@@ -26,10 +26,10 @@ impl Model for Text {
 }
 
 impl Text {
-    /// The most bytes of a text.
+    /// The largest number of bytes of a text.
     pub const MAX_LEN: usize = 200;
 
-    /// The text with these bytes: the first of `TooLong`, `BadByte` and `Memory` that holds, if one does.
+    /// Creates the text with these bytes. Errors, in this order: `TooLong`, `BadByte`; out of memory (`Memory`).
     pub fn new(alloc: Global, bytes: &[u8]) -> Result<Text, TextFault>
         ensures ok { IfOk result (λ text. (text_fault bytes.now ≡ None) × (text ≡ bytes.now)) }
         ensures err { IfErr result (λ fault. text_fault bytes.now ≡ refusal fault) }
@@ -42,7 +42,7 @@ impl Text {
         }
     }
 
-    /// The text that a literal spells. It is shown to have no fault where the call stands. Errors: out of memory.
+    /// Creates the text of a literal. The caller's proof shows that the literal is a valid text. Errors: out of memory.
     #[tactic(auto, using(crate::proofs::Literals::text_sound))]
     pub fn literal(alloc: Global, text: &str) -> Result<Text, AllocError>
         requires { IsTrue (is_text text.now) }
@@ -55,8 +55,8 @@ impl Text {
         }
     }
 
-    /// The text that comes nearest to another: its first `MAX_LEN` bytes, with a question mark for each that may not stand in a
-    /// text. So it has a place for whatever `format!` writes. Errors: out of memory.
+    /// Creates the valid text nearest to `text`: its first `MAX_LEN` bytes, with a question mark for each byte that a text may not have.
+    /// So it accepts everything that `format!` writes. Errors: out of memory.
     pub fn lossy(alloc: Global, text: &str) -> Result<Text, AllocError>
         ensures nearest { IfOk result (λ nearest. nearest ≡ lossy text.now) }
         ensures same { text_fault text.now ≡ None → IfOk result (λ nearest. nearest ≡ text.now) }
@@ -65,7 +65,7 @@ impl Text {
         Ok(Text { bytes })
     }
 
-    /// The bytes of the text.
+    /// Returns the bytes of the text.
     pub fn as_bytes(&self) -> &[u8]
         ensures value { result.now ≡ self.now }
         ensures text { text_fault self.now ≡ None }
@@ -73,7 +73,7 @@ impl Text {
         self.bytes.as_slice()
     }
 
-    /// An equal text. Errors: out of memory.
+    /// Creates an equal text. Errors: out of memory.
     pub fn copy(&self) -> Result<Text, AllocError>
         ensures { IfOk result (λ text. text ≡ self.now) }
     {
@@ -83,7 +83,7 @@ impl Text {
     }
 }
 
-// The first fault of some bytes as a text.
+// Returns the first error of some bytes as a text, if there is one.
 #[tactic(auto, unfolding(crate::specs::Texts::text_fault))]
 fn text_fault(bytes: &[u8]) -> Option<TextFault>
     ensures fault { result ≡ text_fault bytes.now }
@@ -98,14 +98,14 @@ fn text_fault(bytes: &[u8]) -> Option<TextFault>
     }
 }
 
-// Whether each of the bytes may stand in a text.
+// Returns whether a text may have each of the bytes.
 fn are_text_bytes(bytes: &[u8]) -> bool
     ensures { result ≡ list_all is_text_byte bytes.now }
 {
     bytes.iter().all(|b| is_text_byte(*b))
 }
 
-// The first bytes, as a text shows them.
+// Returns the first `Text::MAX_LEN` bytes, each as `byte_shown` returns it. Errors: out of memory.
 fn bytes_shown(alloc: Global, bytes: &[u8]) -> Result<Vec<u8>, AllocError>
     ensures { IfOk result (λ shown. shown.items ≡ lossy bytes.now) }
 {
@@ -113,14 +113,14 @@ fn bytes_shown(alloc: Global, bytes: &[u8]) -> Result<Vec<u8>, AllocError>
     first.map(|b| byte_shown(*b)).collect(alloc)
 }
 
-// The byte as a text shows it.
+// Returns the byte, or a question mark if a text may not have it.
 fn byte_shown(b: u8) -> u8
     ensures { result ≡ byte_shown b }
 {
     if is_text_byte(b) { b } else { b'?' }
 }
 
-// Whether the byte may stand in a text.
+// Returns whether a text may have the byte.
 fn is_text_byte(b: u8) -> bool
     ensures { result ≡ is_text_byte b }
 {

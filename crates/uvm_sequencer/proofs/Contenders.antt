@@ -1,20 +1,5 @@
 -- The contenders as one filter of the queue, and that one is chosen.
-use Rattle.std.proofs.Common.{◌≡◌, ◌≤◌, ◌<◌, ◌+◌, ◌%◌, ℕ, zero, suc, Bool, true, false, not, max, List, [], ◌∷◌, length, drop, filter, sum_by, Option, Some, None, IfSome, IsSome, is_some, refl, sym, ap, ◌∙◌, arith, subst, if◌then◌else◌, nat_lt, nat_le}
-use Rattle.std.specs.Prelude.{◌==◌, ◌||◌, ◌&&◌}
-use Rattle.std.proofs.lemmas.Bool.Decides.{nat_tests}
-use Rattle.std.specs.List.{list_all, list_any, slice_get}
-use Rattle.std.specs.Option.{option_and_then}
-use Rattle.std.proofs.lemmas.List.Sums.{sum_by-cons}
-use Rattle.std.proofs.Math.Nat.{mod-lt}
-use Rattle.uvm_sequences.specs.Sequences.{Start}
-use Rattle.uvm_sequencer.specs.declared.modes.Mode.{Mode}
-use Rattle.uvm_sequencer.specs.declared.modes.Mode.TheVariants.{Fifo, Weighted, Random, StrictFifo, StrictRandom}
-use Rattle.uvm_sequencer.specs.declared.drivers.How.{How}
-use Rattle.uvm_sequencer.specs.declared.requests.Request.{Request}
-use Rattle.uvm_sequencer.specs.Queues.{is_item, is_candidate, is_blocked, candidates, priority_of}
-use Rattle.uvm_sequencer.specs.Choices.{is_strict, is_random, is_greatest, contenders, is_drawn, first_over, drawn, choice, readiness}
-use Rattle.uvm_sequencer.specs.Contending.{is_contending, contending, highest, bar_of}
-use Rattle.uvm_sequencer.specs.Marks.{has_priority}
+use Rattle.uvm_sequencer.proofs.Common.{◌≡◌, ◌≤◌, ◌<◌, ◌+◌, ◌%◌, ℕ, zero, suc, Bool, true, false, not, max, List, [], ◌∷◌, length, drop, filter, sum_by, Option, Some, None, IfSome, IsSome, is_some, refl, sym, ap, ◌∙◌, arith, subst, if◌then◌else◌, nat_lt, nat_le, ◌==◌, ◌||◌, ◌&&◌, nat_tests, list_all, list_any, slice_get, option_and_then, sum_by-cons, mod-lt, Start, Mode, Fifo, Weighted, Random, StrictFifo, StrictRandom, How, Request, is_item, is_candidate, is_blocked, candidates, priority_of, is_strict, is_random, is_greatest, contenders, is_drawn, first_over, drawn, choice, readiness, is_contending, contending, highest, bar_of, has_priority}
 
 and_left : (a b : Bool) → (a && b) ≡ true → a ≡ true
 and_left true b e = refl

@@ -1,20 +1,5 @@
 -- Who is granted waits for it, and stands under all holders.
-use Rattle.std.proofs.Common.{◌≡◌, ◌+◌, ◌%◌, ℕ, zero, suc, Bool, true, false, not, List, [], ◌∷◌, length, filter, sum_by, Option, Some, None, IsSome, refl, ap, subst, ◌∙◌, arith, if◌then◌else◌, nat_lt}
-use Rattle.std.specs.Prelude.{◌==◌, ◌||◌, ◌&&◌, All, Contains}
-use Rattle.std.proofs.lemmas.Bool.Decides.{nat_tests}
-use Rattle.std.proofs.lemmas.List.Elements.{All-nil, All-cons, All-head, All-tail, All-contains, All-contains_itself, All-filter, All-weaker, filter_passes}
-use Rattle.std.specs.List.{list_all, list_any, slice_get}
-use Rattle.std.specs.Option.{option_and_then, option_map, IsSomeAnd}
-use Rattle.uvm_sequencer.specs.declared.modes.Mode.{Mode}
-use Rattle.uvm_sequencer.specs.declared.modes.Mode.TheVariants.{Fifo, Weighted, Random, StrictFifo, StrictRandom}
-use Rattle.uvm_sequencer.specs.declared.requests.Request.{Request}
-use Rattle.uvm_sequencer.specs.declared.requests.Want.{Want}
-use Rattle.uvm_sequencer.specs.declared.requests.Want.TheVariants.{Item, Lock}
-use Rattle.uvm_sequences.specs.Sequences.{Start, is_under}
-use Rattle.uvm_sequencer.specs.Queues.{AreSingle, is_blocked, is_candidate, is_item, is_item_of, is_lock_of, leading, lock_in, lock_request, priority_of}
-use Rattle.uvm_sequencer.specs.Choices.{choice, contenders, drawn, first_over, is_greatest, is_strict}
-use Rattle.uvm_sequencer.specs.Sequencers.{SequencerValue, candidates_at, choice_at, granted, lock_at, locked}
-use Rattle.uvm_sequencer.specs.Laws.{EachGrantEndsAWait, IsFree, LockExcludes}
+use Rattle.uvm_sequencer.proofs.Common.{◌≡◌, ◌+◌, ◌%◌, ℕ, zero, suc, Bool, true, false, not, List, [], ◌∷◌, length, filter, sum_by, Option, Some, None, IsSome, refl, ap, subst, ◌∙◌, arith, if◌then◌else◌, nat_lt, ◌==◌, ◌||◌, ◌&&◌, All, Contains, nat_tests, All-nil, All-cons, All-head, All-tail, All-contains, All-contains_itself, All-filter, All-weaker, filter_passes, list_all, list_any, slice_get, option_and_then, option_map, IsSomeAnd, Mode, Fifo, Weighted, Random, StrictFifo, StrictRandom, Request, Want, Item, Lock, Start, is_under, AreSingle, is_blocked, is_candidate, is_item, is_item_of, is_lock_of, leading, lock_in, lock_request, priority_of, choice, contenders, drawn, first_over, is_greatest, is_strict, SequencerValue, candidates_at, choice_at, granted, lock_at, locked, EachGrantEndsAWait, IsFree, LockExcludes}
 use Rattle.uvm_sequencer.proofs.Singles.{one-fewer}
 use Rattle.uvm_sequencer.proofs.Waiting.{leading-waits}
 

@@ -1,11 +1,5 @@
 -- What is said of an item in hand.
-use Rattle.std.proofs.Common.{◌≡◌, Bool, true, false, Some, IsSome, refl, if◌then◌else◌}
-use Rattle.uvm_sequencer.specs.declared.drivers.Driver.{Driver}
-use Rattle.uvm_sequencer.specs.declared.drivers.Driver.TheVariants.{Idle, Waiting, Granted, InHand}
-use Rattle.uvm_sequencer.specs.declared.faults.SeqFault.TheVariants.{NoDriver, Twice}
-use Rattle.uvm_sequencer.specs.Drivers.{hand_of}
-use Rattle.uvm_sequencer.specs.Sequencers.{SequencerValue, is_driver}
-use Rattle.uvm_sequencer.specs.Laws.{IsOut, OneItemOut}
+use Rattle.uvm_sequencer.proofs.Common.{◌≡◌, Bool, true, false, Some, IsSome, refl, if◌then◌else◌, Driver, Idle, Waiting, Granted, InHand, NoDriver, Twice, hand_of, SequencerValue, is_driver, IsOut, OneItemOut}
 
 busy_by : (drives : Bool) → IsSome (if drives then Some Twice else Some NoDriver)
 busy_by true = refl

@@ -1,3 +1,4 @@
+mod Common
 pub mod Contenders
 pub mod Granting
 pub mod Hands

@@ -1,10 +1,5 @@
 -- Marks of who waits, as requests come and go.
-use Rattle.std.proofs.Common.{◌≡◌, ℕ, Bool, true, false, not, List, [], ◌∷◌, ◌++◌, length, filter, refl, sym, ap, ◌∙◌, arith, cond, nat_eq}
-use Rattle.std.specs.Prelude.{◌==◌, ◌||◌, ◌&&◌}
-use Rattle.std.proofs.lemmas.Bool.Decides.{nat_tests}
-use Rattle.std.specs.List.{list_all, list_any}
-use Rattle.uvm_sequencer.specs.declared.requests.Request.{Request}
-use Rattle.uvm_sequencer.specs.Queues.{is_item, is_item_of, is_lock_of, is_of, without}
+use Rattle.uvm_sequencer.proofs.Common.{◌≡◌, ℕ, Bool, true, false, not, List, [], ◌∷◌, ◌++◌, length, filter, refl, sym, ap, ◌∙◌, arith, cond, nat_eq, ◌==◌, ◌||◌, ◌&&◌, nat_tests, list_all, list_any, Request, is_item, is_item_of, is_lock_of, is_of, without}
 
 never : (a : Bool) → (a && false) ≡ false
 never true = refl

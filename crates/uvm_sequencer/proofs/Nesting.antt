@@ -1,13 +1,5 @@
 -- Nested holders stay nested.
-use Rattle.std.proofs.Common.{◌≡◌, ◌<◌, ℕ, Bool, true, false, not, List, [], ◌∷◌, ◌++◌, length, filter, refl, sym, ap, ◌∙◌, arith, if◌then◌else◌}
-use Rattle.std.specs.Prelude.{◌==◌, ◌||◌, ◌&&◌}
-use Rattle.std.proofs.lemmas.Bool.Decides.{nat_tests}
-use Rattle.std.specs.List.{list_all, list_any}
-use Rattle.std.specs.Option.{option_map_or}
-use Rattle.uvm_sequences.specs.Sequences.{Start, ancestors_of, is_under}
-use Rattle.uvm_sequencer.specs.Queues.{is_held, released}
-use Rattle.uvm_sequencer.specs.Sequencers.{is_live_at}
-use Rattle.uvm_sequencer.specs.Laws.{are_nested, HoldersStayNested}
+use Rattle.uvm_sequencer.proofs.Common.{◌≡◌, ◌<◌, ℕ, Bool, true, false, not, List, [], ◌∷◌, ◌++◌, length, filter, refl, sym, ap, ◌∙◌, arith, if◌then◌else◌, ◌==◌, ◌||◌, ◌&&◌, nat_tests, list_all, list_any, option_map_or, Start, ancestors_of, is_under, is_held, released, is_live_at, are_nested, HoldersStayNested}
 use Rattle.uvm_sequencer.proofs.Granting.{lock-free}
 use Rattle.uvm_sequencer.proofs.Waiting.{all-filter}
 

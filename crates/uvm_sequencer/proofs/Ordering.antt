@@ -1,19 +1,5 @@
 -- Who is granted first, and how weighted draws fall.
-use Rattle.std.proofs.Common.{◌≡◌, ◌≤◌, ◌<◌, ◌+◌, ℕ, Bool, true, false, max, List, [], ◌∷◌, ◌++◌, filter, sum_by, Option, Some, None, refl, sym, ap, subst, ◌∙◌, arith, if◌then◌else◌, nat_lt, nat_le}
-use Rattle.std.specs.Prelude.{◌&&◌, All}
-use Rattle.std.proofs.lemmas.Bool.Decides.{nat_tests}
-use Rattle.std.proofs.lemmas.List.Elements.{All-nil, All-cons, All-weaker, filter_passes}
-use Rattle.std.proofs.lemmas.List.Sums.{sum_by-cons}
-use Rattle.std.specs.List.{slice_get}
-use Rattle.uvm_sequencer.specs.declared.modes.Mode.{Mode}
-use Rattle.uvm_sequencer.specs.declared.modes.Mode.TheVariants.{StrictFifo}
-use Rattle.uvm_sequencer.specs.declared.requests.Request.{Request}
-use Rattle.uvm_sequences.specs.Sequences.{Start}
-use Rattle.uvm_sequencer.specs.Queues.{is_candidate, priority_of}
-use Rattle.uvm_sequencer.specs.Choices.{choice, contenders, first_over, is_strict}
-use Rattle.uvm_sequencer.specs.Contending.{bar_of, highest, is_contending}
-use Rattle.uvm_sequencer.specs.Sequencers.{SequencerValue, candidates_at}
-use Rattle.uvm_sequencer.specs.Laws.{FifoOrder, IsFirst, StrictPriority, WeightsShareTheDraws, is_as_urgent}
+use Rattle.uvm_sequencer.proofs.Common.{◌≡◌, ◌≤◌, ◌<◌, ◌+◌, ℕ, Bool, true, false, max, List, [], ◌∷◌, ◌++◌, filter, sum_by, Option, Some, None, refl, sym, ap, subst, ◌∙◌, arith, if◌then◌else◌, nat_lt, nat_le, ◌&&◌, All, nat_tests, All-nil, All-cons, All-weaker, filter_passes, sum_by-cons, slice_get, Mode, StrictFifo, Request, Start, is_candidate, priority_of, choice, contenders, first_over, is_strict, bar_of, highest, is_contending, SequencerValue, candidates_at, FifoOrder, IsFirst, StrictPriority, WeightsShareTheDraws, is_as_urgent}
 use Rattle.uvm_sequencer.proofs.Contenders.{contenders-contending}
 use Rattle.uvm_sequencer.proofs.Granting.{choice-all, contender-all}
 

@@ -1,19 +1,5 @@
 -- A look at the queue may begin behind requests of blocked sequences.
-use Rattle.std.proofs.Common.{◌≡◌, ◌≤◌, ◌+◌, ℕ, zero, suc, Bool, true, false, not, List, [], ◌∷◌, ◌++◌, length, filter, take, drop, Option, Some, None, IfSome, IsSome, is_some, refl, sym, ap, subst, ◌∙◌, arith, if◌then◌else◌}
-use Rattle.std.specs.Prelude.{◌==◌, ◌&&◌}
-use Rattle.std.proofs.lemmas.Bool.Decides.{nat_tests}
-use Rattle.std.specs.List.{list_all, position_or_len, slice_get}
-use Rattle.std.specs.Option.{option_map}
-use Rattle.uvm_sequencer.specs.declared.modes.Mode.{Mode}
-use Rattle.uvm_sequencer.specs.declared.requests.Request.{Request}
-use Rattle.uvm_sequencer.specs.Choices.{choice, contenders, is_strict, readiness}
-use Rattle.uvm_sequencer.specs.Drivers.{wait_of}
-use Rattle.uvm_sequencer.specs.Marks.{has_priority}
-use Rattle.uvm_sequencer.specs.Passed.{IsPassed}
-use Rattle.uvm_sequences.specs.Sequences.{Start}
-use Rattle.uvm_sequencer.specs.Queues.{candidates, is_blocked, is_item, is_item_of, item_request, leading, lock_request}
-use Rattle.uvm_sequencer.specs.Sequencers.{SequencerValue, candidates_at, granted, ready_at}
-use Rattle.uvm_sequencer.specs.Laws.{PassedStays}
+use Rattle.uvm_sequencer.proofs.Common.{◌≡◌, ◌≤◌, ◌+◌, ℕ, zero, suc, Bool, true, false, not, List, [], ◌∷◌, ◌++◌, length, filter, take, drop, Option, Some, None, IfSome, IsSome, is_some, refl, sym, ap, subst, ◌∙◌, arith, if◌then◌else◌, ◌==◌, ◌&&◌, nat_tests, list_all, position_or_len, slice_get, option_map, Mode, Request, choice, contenders, is_strict, readiness, wait_of, has_priority, IsPassed, Start, candidates, is_blocked, is_item, is_item_of, item_request, leading, lock_request, SequencerValue, candidates_at, granted, ready_at, PassedStays}
 use Rattle.uvm_sequencer.proofs.Contenders.{all-contenders, choice-some}
 use Rattle.uvm_sequencer.proofs.Granting.{chosen-item}
 

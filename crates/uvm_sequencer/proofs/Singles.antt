@@ -1,16 +1,5 @@
 -- A sequence waits for one item and one lock at most.
-use Rattle.std.proofs.Common.{◌≡◌, ◌≤◌, ◌<◌, ◌+◌, ℕ, Bool, true, false, not, List, [], ◌∷◌, ◌++◌, length, filter, None, is_some, refl, ap, subst, ◌∙◌, arith, length-append, if◌then◌else◌}
-use Rattle.std.specs.Prelude.{◌==◌, ◌||◌, ◌&&◌}
-use Rattle.std.proofs.lemmas.Bool.Decides.{nat_tests}
-use Rattle.std.proofs.lemmas.List.Elements.{filter-append}
-use Rattle.std.specs.List.{list_any}
-use Rattle.uvm_glob.specs.Faults.{fault_if}
-use Rattle.uvm_sequencer.specs.declared.requests.Request.{Request}
-use Rattle.uvm_sequencer.specs.declared.faults.SeqFault.TheVariants.{Twice}
-use Rattle.uvm_sequencer.specs.Drivers.{grant_of}
-use Rattle.uvm_sequencer.specs.Queues.{AreSingle, is_item_of, is_lock_of, is_of, item_request, lock_request}
-use Rattle.uvm_sequencer.specs.Sequencers.{is_live_at}
-use Rattle.uvm_sequencer.specs.Laws.{WaitsStaySingle}
+use Rattle.uvm_sequencer.proofs.Common.{◌≡◌, ◌≤◌, ◌<◌, ◌+◌, ℕ, Bool, true, false, not, List, [], ◌∷◌, ◌++◌, length, filter, None, is_some, refl, ap, subst, ◌∙◌, arith, length-append, if◌then◌else◌, ◌==◌, ◌||◌, ◌&&◌, nat_tests, filter-append, list_any, fault_if, Request, Twice, grant_of, AreSingle, is_item_of, is_lock_of, is_of, item_request, lock_request, is_live_at, WaitsStaySingle}
 
 -- no more pass a test of what is left
 few_more : (p q : Request → Bool) (x : Request) (xs : List Request) (a b : Bool) → q x ≡ a → p x ≡ b → length (filter p (filter q xs)) ≤ length (filter p xs)

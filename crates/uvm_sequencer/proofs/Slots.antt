@@ -1,8 +1,5 @@
 -- What is left of a list that stands behind free slots.
-use Rattle.std.proofs.Common.{◌≡◌, ◌≤◌, ◌<◌, ◌+◌, ◌-◌, ℕ, zero, suc, List, [], ◌∷◌, ◌++◌, length, take, drop, sym, ap, ◌∙◌, arith}
-use Rattle.std.specs.Prelude.{remove}
-use Rattle.std.specs.List.{copy_within}
-use Rattle.std.proofs.lemmas.List.{append_assoc, drop_at, drop-drop, length-take-le}
+use Rattle.uvm_sequencer.proofs.Common.{◌≡◌, ◌≤◌, ◌<◌, ◌+◌, ◌-◌, ℕ, zero, suc, List, [], ◌∷◌, ◌++◌, length, take, drop, sym, ap, ◌∙◌, arith, copy_within, append_assoc, drop_at, drop-drop, length-take-le, remove}
 
 module _ {X : Type 0} where
   -- without one, where those behind it were moved

@@ -1,14 +1,5 @@
 -- A start changes nothing for those that wait.
-use Rattle.std.proofs.Common.{◌≡◌, ◌≤◌, ℕ, zero, suc, Bool, true, false, not, List, [], ◌∷◌, length, take, Some, refl, ap, ◌∙◌, arith, if◌then◌else◌, nat_le}
-use Rattle.std.specs.Prelude.{◌==◌, ◌||◌, ◌&&◌}
-use Rattle.std.proofs.lemmas.Bool.Decides.{nat_tests}
-use Rattle.std.specs.List.{list_all, list_any}
-use Rattle.std.specs.Option.{option_and_then}
-use Rattle.uvm_sequencer.specs.declared.requests.Request.{Request}
-use Rattle.uvm_sequences.specs.Sequences.{Start}
-use Rattle.uvm_sequencer.specs.Queues.{candidates, is_blocked, is_candidate, is_item, leading, lock_in}
-use Rattle.uvm_sequencer.specs.Laws.{StartsChangeNothing, are_known}
-use Rattle.uvm_sequences.specs.Laws.{AncestorsStay}
+use Rattle.uvm_sequencer.proofs.Common.{◌≡◌, ◌≤◌, ℕ, zero, suc, Bool, true, false, not, List, [], ◌∷◌, length, take, Some, refl, ap, ◌∙◌, arith, if◌then◌else◌, nat_le, ◌==◌, ◌||◌, ◌&&◌, nat_tests, list_all, list_any, option_and_then, Request, Start, candidates, is_blocked, is_candidate, is_item, leading, lock_in, StartsChangeNothing, are_known, AncestorsStay}
 
 le_of : (m n : ℕ) (b : Bool) → (nat_le m n && b) ≡ true → m ≤ n
 le_of m n b e = first (nat_le m n) b refl e

@@ -1,12 +1,5 @@
 -- What is taken out at a place.
-use Rattle.std.proofs.Common.{◌≡◌, ◌≤◌, ◌<◌, ℕ, zero, suc, Bool, true, false, not, List, [], ◌∷◌, length, filter, Option, Some, None, refl, sym, ap, ◌∙◌, arith}
-use Rattle.std.specs.Prelude.{◌==◌, ◌&&◌, remove}
-use Rattle.std.specs.List.{slice_get, slice_index_or}
-use Rattle.std.specs.Option.{option_and_then, IsSomeAnd}
-use Rattle.std.proofs.lemmas.Bool.Decides.{nat_tests}
-use Rattle.std.proofs.lemmas.Option.{get_or_from_slice_get}
-use Rattle.uvm_sequencer.specs.declared.requests.Request.{Request}
-use Rattle.uvm_sequencer.specs.Queues.{is_item, is_lock_of, lock_in}
+use Rattle.uvm_sequencer.proofs.Common.{◌≡◌, ◌≤◌, ◌<◌, ℕ, zero, suc, Bool, true, false, not, List, [], ◌∷◌, length, filter, Option, Some, None, refl, sym, ap, ◌∙◌, arith, ◌==◌, ◌&&◌, slice_get, slice_index_or, option_and_then, IsSomeAnd, nat_tests, get_or_from_slice_get, Request, is_item, is_lock_of, lock_in, remove}
 
 -- where nothing passes a test all is left without it
 all_left_by : (p : Request → Bool) (x : Request) (xs : List Request) (b : Bool) → p x ≡ b → (length (filter p xs) ≡ 0 → xs ≡ filter (λ r. not (p r)) xs) → length (filter p (x ∷ xs)) ≡ 0 → x ∷ xs ≡ filter (λ r. not (p r)) (x ∷ xs)

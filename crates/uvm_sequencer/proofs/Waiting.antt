@@ -1,13 +1,5 @@
 -- What is left of a queue.
-use Rattle.std.proofs.Common.{◌≡◌, ◌≤◌, ◌<◌, ◌+◌, ℕ, Bool, true, false, not, List, [], ◌∷◌, ◌++◌, length, filter, Some, None, refl, arith}
-use Rattle.std.specs.Prelude.{◌==◌, ◌||◌}
-use Rattle.std.proofs.lemmas.Bool.Decides.{nat_tests}
-use Rattle.std.specs.List.{list_any, list_all}
-use Rattle.uvm_sequences.specs.Sequences.{Start}
-use Rattle.uvm_sequencer.specs.declared.requests.Request.{Request}
-use Rattle.uvm_sequencer.specs.Queues.{is_item, is_lock_of, is_blocked, leading_lock}
-use Rattle.uvm_sequencer.specs.Rooms.{locks}
-use Rattle.std.proofs.Common.{length-append}
+use Rattle.uvm_sequencer.proofs.Common.{◌≡◌, ◌≤◌, ◌<◌, ◌+◌, ℕ, Bool, true, false, not, List, [], ◌∷◌, ◌++◌, length, filter, Some, None, refl, arith, ◌==◌, ◌||◌, nat_tests, list_any, list_all, Start, Request, is_item, is_lock_of, is_blocked, leading_lock, locks, length-append}
 
 -- what each passes, each that is left passes
 all_by : {X : Type 0} (p q : X → Bool) (x : X) (xs : List X) (a b : Bool) → p x ≡ a → q x ≡ b

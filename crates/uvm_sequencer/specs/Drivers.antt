@@ -1,4 +1,4 @@
--- What becomes of the driver of a sequencer.
+-- The state of the driver of a sequencer, and how each call changes it.
 use Rattle.std.specs.Prelude.{ℕ, Bool, true, false, ◌==◌, Option, Some, None, if◌then◌else◌}
 use Rattle.std.specs.Option.{option_map_or}
 use Rattle.uvm_sequencer.specs.declared.drivers.Asked.{Asked}
@@ -8,66 +8,67 @@ use Rattle.uvm_sequencer.specs.declared.drivers.How.TheVariants.{Try, Get}
 use Rattle.uvm_sequencer.specs.declared.drivers.Driver.{Driver}
 use Rattle.uvm_sequencer.specs.declared.drivers.Driver.TheVariants.{Idle, Waiting, Granted, InHand}
 
--- it may ask
+-- whether the driver may request an item
 abbrev pub is_idle : Driver → Bool
 is_idle Idle = true
 is_idle driver = false
 
--- how it asked, while nobody is granted
+-- how the driver requested an item, if no sequence is granted yet
 abbrev pub wait_of : Driver → Option How
 wait_of (Waiting how) = Some how
 wait_of driver = None
 
--- how it asked, while that sequence is granted and has not sent
+-- how the driver requested an item, if this sequence is granted and has not sent
 abbrev pub grant_of : ℕ → Driver → Option How
 grant_of seq (Granted other how) = if other == seq then Some how else None
 grant_of seq driver = None
 
--- whose item it has in hand
+-- the sequence whose item the driver holds, if any
 abbrev pub hand_of : Driver → Option ℕ
 hand_of (InHand seq) = Some seq
 hand_of driver = None
 
--- after it asked: it waits, unless it has its answer
+-- the driver after it requested an item: it waits, unless the request is already answered
 abbrev pub asked_by : How → Asked → Driver → Driver
 asked_by how Nothing driver = driver
 asked_by how Waits driver = Waiting how
 
--- after a sequence was granted, for which it waited
+-- the driver after a sequence was granted, if the driver waited
 abbrev pub granted_by : ℕ → Driver → Driver
 granted_by seq (Waiting how) = Granted seq how
 granted_by seq driver = driver
 
--- after the granted sequence sent its item: it has it in hand, but for a `get`, which is done
+-- the driver after the granted sequence sent its item: it holds the item, except for a `get`, whose item is done
 abbrev pub sent : ℕ → How → Driver
 sent seq Get = Idle
 sent seq how = InHand seq
 
--- after an unsent grant lapsed: a `try` has its answer, and the others wait again
+-- the driver after a grant without a sent item was withdrawn: a `try` is answered, any other request waits again
 abbrev pub lapsed : How → Driver
 lapsed Try = Idle
 lapsed how = Waiting how
 
--- after a sequence left, of which an unsent grant lapses
+-- the driver after a sequence left: a grant of that sequence without a sent item is withdrawn
 abbrev pub left_by : Option How → Driver → Driver
 left_by how driver = option_map_or lapsed how driver
 
--- what lapsed was a `try`
+-- whether the withdrawn grant was that of a `try`
 abbrev pub is_try : Option How → Bool
 is_try (Some Try) = true
 is_try how = false
 
--- how it asked, where the sequence that was granted and has not sent lives no longer
+-- how the driver requested an item, if the granted sequence has not sent and has ended
 abbrev pub lost_grant : (ℕ → Bool) → Driver → Option How
 lost_grant live (Granted seq how) = if live seq then None else Some how
 lost_grant live driver = None
 
--- after a phase ended: what it asked ends with its phase, and else the grant of a sequence that lives no longer lapses. An item in hand stays there
+-- the driver after a phase ended: idle if its request ends too; otherwise a grant of a sequence that has ended is withdrawn, and an item that the
+-- driver holds stays
 abbrev pub kept_on : Bool → (ℕ → Bool) → Driver → Driver
 kept_on true live driver = Idle
 kept_on false live driver = left_by (lost_grant live driver) driver
 
--- what lapses then is a `try`
+-- whether the end of a phase withdraws the grant of a `try`
 abbrev pub loses_try : Bool → (ℕ → Bool) → Driver → Bool
 loses_try true live driver = false
 loses_try false live driver = is_try (lost_grant live driver)

@@ -1,4 +1,4 @@
--- What is told of each fault.
+-- The texts of the errors, and whether an error rejects a call.
 use Rattle.std.specs.Prelude.{ℕ, List, Option, Some, None, Result, Ok, Err, codes}
 use Rattle.uvm_sequencer.specs.declared.faults.SeqFault.{SeqFault}
 use Rattle.uvm_sequencer.specs.declared.faults.SeqFault.TheVariants.{NoDriver, Twice, NothingOut, NotGranted, NotHeld, Memory}
@@ -12,7 +12,7 @@ fault_text NotGranted = codes "not granted"
 fault_text NotHeld = codes "not held"
 fault_text Memory = codes "out of memory"
 
--- what a fault says of a call: `Memory` says that nothing is wrong with it
+-- the error that rejects a call; none for `Memory`, which says nothing about the call
 abbrev pub refusal : SeqFault → Option SeqFault
 refusal NoDriver = Some NoDriver
 refusal Twice = Some Twice
@@ -21,7 +21,7 @@ refusal NotGranted = Some NotGranted
 refusal NotHeld = Some NotHeld
 refusal Memory = None
 
--- the value that is there, and else a fault
+-- the value if it is given, otherwise an error
 abbrev pub or_fault : {T : Type 0} → Option T → SeqFault → Result T SeqFault
 or_fault None fault = Err fault
 or_fault (Some value) fault = Ok value

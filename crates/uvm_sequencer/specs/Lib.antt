@@ -5,7 +5,7 @@ pub mod Laws
 pub mod Passed
 pub mod Queues
 pub mod Sequencers
--- what the bodies go by, and no caller cites
+-- internal definitions, which the function bodies use and no caller needs
 pub mod Contending
 pub mod Marks
 pub mod Rooms

@@ -1,12 +1,12 @@
--- What sequences ask of a sequencer, in the order of its queue: grabs first, the latest foremost, then the others as they came. And
--- who holds the sequencer, in the order of granting.
+-- The requests of sequences at a sequencer, in the order of its queue: grabs first, the latest at the front, then the others in order of arrival. And
+-- the holders of the sequencer, in the order of granting.
 use Rattle.std.specs.Prelude.{ℕ, Bool, true, false, ◌≤◌, ◌==◌, ◌&&◌, not, List, [], ◌∷◌, length, filter, find, Option, Some, None, option_and_then, if◌then◌else◌}
 use Rattle.std.specs.List.{list_any}
 use Rattle.uvm_sequencer.specs.declared.requests.Request.{Request}
 use Rattle.uvm_sequencer.specs.declared.requests.Want.{Want}
 use Rattle.uvm_sequencer.specs.declared.requests.Want.TheVariants.{Item, Lock}
 use Rattle.uvm_sequences.specs.Sequences.{Start}
-pub use Rattle.uvm_holders.specs.Holding.{is_blocked, is_held, released, all_released}
+pub use Rattle.uvm_sequencer_holders.specs.Holding.{is_blocked, is_held, released, all_released}
 
 -- the request of a sequence to send an item, with its priority
 abbrev pub item_request : ℕ → ℕ → Request
@@ -16,7 +16,7 @@ item_request seq priority = record { seq = seq; want = Item priority }
 abbrev pub lock_request : ℕ → Request
 lock_request seq = record { seq = seq; want = Lock }
 
--- whether an item is wanted, and not a lock
+-- whether an item is requested, not a lock
 abbrev pub wants_item : Want → Bool
 wants_item (Item priority) = true
 wants_item Lock = false
@@ -46,7 +46,7 @@ is_item_of seq request = is_of seq request && is_item request
 abbrev pub is_lock_of : ℕ → Request → Bool
 is_lock_of seq request = is_of seq request && not (is_item request)
 
--- a sequence waits for one item and for one lock at most
+-- a sequence waits for at most one item and one lock
 abbrev pub AreSingle : List Request → Type 0
 AreSingle queue = (seq : ℕ) → (length (filter (is_item_of seq) queue) ≤ 1) × (length (filter (is_lock_of seq) queue) ≤ 1)
 
@@ -62,7 +62,7 @@ without_item seq queue = filter (λ request. not (is_item_of seq request)) queue
 abbrev pub without_lock : ℕ → List Request → List Request
 without_lock seq queue = filter (λ request. not (is_lock_of seq request)) queue
 
--- a candidate is an item request of a sequence that is not blocked
+-- whether a request is a candidate: an item request of a sequence that is not blocked
 abbrev pub is_candidate : List Start → List ℕ → Request → Bool
 is_candidate started holders request = is_item request && not (is_blocked started holders request.seq)
 
@@ -70,7 +70,7 @@ is_candidate started holders request = is_item request && not (is_blocked starte
 abbrev pub candidates : List Start → List ℕ → List Request → List Request
 candidates started holders queue = filter (is_candidate started holders) queue
 
--- the request that leads: the first of a sequence that is not blocked
+-- the leading request: the first whose sequence is not blocked
 abbrev pub leading : List Start → List ℕ → List Request → Option Request
 leading started holders queue = find (λ request. not (is_blocked started holders request.seq)) queue
 
@@ -78,6 +78,6 @@ leading started holders queue = find (λ request. not (is_blocked started holder
 abbrev pub lock_in : Request → Option ℕ
 lock_in request = if is_item request then None else Some request.seq
 
--- the sequence whose lock is granted next: that of the request that leads, if this is for a lock
+-- the sequence whose lock is granted next: that of the leading request, if it is for a lock
 abbrev pub leading_lock : List Start → List ℕ → List Request → Option ℕ
 leading_lock started holders queue = option_and_then lock_in (leading started holders queue)

@@ -1,4 +1,4 @@
-//! The choice among the candidates.
+//! The choice among the candidates of a sequencer.
 
 ghost use Rattle.std.specs.Prelude.{◌≡◌, ◌<◌, ◌≤◌, length, sum_by, slice_get, IfSome, IsSome, IsTrue, true};
 ghost use Rattle.std.specs.List.{list_all, list_any};
@@ -11,10 +11,10 @@ ghost use Rattle.uvm_sequencer.specs.Marks.{has_priority};
 use crate::modes::Mode;
 use crate::requests::Request;
 use crate::scans::is_candidate;
-use uvm_holders::Holders;
+use uvm_sequencer_holders::Holders;
 use uvm_sequences::Sequences;
 
-// A queue, and what decides who of it is blocked.
+// A queue, and the sequences and holders that decide which of its requests are blocked.
 #[derive(Clone, Copy)]
 pub(crate) struct Choices<'a> {
     pub sequences: &'a Sequences,
@@ -23,7 +23,7 @@ pub(crate) struct Choices<'a> {
 }
 
 impl<'a> Choices<'a> {
-    // The greatest priority of a candidate, 0 where there is none.
+    // Returns the greatest priority of a candidate; 0 if there is none.
     fn highest(&self) -> u16
         ensures { result ≡ highest (candidates self.now.sequences.now.started self.now.holders.now.list self.now.queue.now) }
     {
@@ -36,21 +36,21 @@ impl<'a> Choices<'a> {
         highest
     }
 
-    // The priority that a candidate needs.
+    // Returns the priority that a candidate needs to be a contender: the greatest in a strict mode, otherwise 0.
     fn bar(&self, mode: Mode) -> u16
         ensures { result ≡ bar_of mode (candidates self.now.sequences.now.started self.now.holders.now.list self.now.queue.now) }
     {
         if mode.is_strict() { self.highest() } else { 0 }
     }
 
-    // Whether a request is a candidate of at least some priority.
+    // Returns whether a request is a contender: a candidate with a priority of at least `bar`.
     fn is_contending(&self, bar: u16, request: &Request) -> bool
         ensures { result ≡ is_contending self.now.sequences.now.started self.now.holders.now.list bar request.now }
     {
         is_candidate(self.sequences, self.holders, request) && bar <= request.priority()
     }
 
-    // How many there are.
+    // Returns the number of contenders.
     fn count(&self, bar: u16) -> usize
         ensures { result ≡ length (contending self.now.sequences.now.started self.now.holders.now.list bar self.now.queue.now) }
     {
@@ -60,7 +60,7 @@ impl<'a> Choices<'a> {
             .count()
     }
 
-    // Where one of them stands, by its number from 0.
+    // Returns the place in the queue of contender number `n`, counted from 0; `None` if there are not so many.
     fn nth(&self, bar: u16, n: usize) -> Option<usize>
         ensures value { option_and_then (slice_get self.now.queue.now) result ≡ slice_get (contending self.now.sequences.now.started self.now.holders.now.list bar self.now.queue.now) n }
         ensures within { IfSome result (λ place. place < length self.now.queue.now) }
@@ -77,7 +77,7 @@ impl<'a> Choices<'a> {
         None
     }
 
-    // The sum of their priorities.
+    // Returns the sum of the priorities of the contenders.
     fn sum(&self, bar: u16) -> u128
         ensures { result ≡ sum_by priority_of (contending self.now.sequences.now.started self.now.holders.now.list bar self.now.queue.now) }
     {
@@ -90,7 +90,7 @@ impl<'a> Choices<'a> {
         sum
     }
 
-    // Where the first of them stands at which the sum of the priorities so far exceeds a number.
+    // Returns the place in the queue of the first contender at which the sum of the priorities so far exceeds `n`.
     fn first_over(&self, bar: u16, n: u128) -> Option<usize>
         ensures { option_and_then (slice_get self.now.queue.now) result ≡ first_over 0 n (contending self.now.sequences.now.started self.now.holders.now.list bar self.now.queue.now) }
     {
@@ -106,8 +106,8 @@ impl<'a> Choices<'a> {
         None
     }
 
-    // Where the one stands that is granted: without a word the first contender. Where all requests are known to be contenders the
-    // number of one is its place.
+    // Returns the place in the queue of the request to grant: the contender that the random number selects, or the first if
+    // `word` is `None`. If all requests are known to be contenders (`are_all`), the number of a contender is its place.
     pub(crate) fn chosen(&self, mode: Mode, word: Option<u64>, are_all: bool) -> Option<usize>
         requires some { IsSome word → 0 < length (contenders mode (candidates self.now.sequences.now.started self.now.holders.now.list self.now.queue.now)) }
         requires priorities { list_all has_priority self.now.queue.now ≡ true }
@@ -131,14 +131,15 @@ impl<'a> Choices<'a> {
         }
     }
 
-    // Whether there is a candidate: a look at the queue up to the first.
+    // Returns whether there is a candidate. Cost: a scan of the queue up to the first candidate.
     pub(crate) fn has_candidate(&self) -> bool
         ensures { result ≡ list_any (is_candidate self.now.sequences.now.started self.now.holders.now.list) self.now.queue.now }
     {
         self.queue.iter().any(|request| is_candidate(self.sequences, self.holders, request))
     }
 
-    // Whether a word decides: a look at the queue up to the second contender.
+    // Returns whether a random number decides. Cost: in a random mode, a scan of the queue up to the second contender; in a
+    // strict random mode, a scan of the whole queue before it.
     pub(crate) fn is_drawn(&self, mode: Mode) -> bool
         ensures { result ≡ is_drawn mode (candidates self.now.sequences.now.started self.now.holders.now.list self.now.queue.now) }
     {

@@ -1,4 +1,4 @@
-//! What the driver of a sequencer waits for or has.
+//! The state of the driver of a sequencer.
 
 ghost use Rattle.std.specs.Prelude.{◌≡◌};
 ghost use Rattle.uvm_sequencer.specs.Drivers.{is_idle, is_try, wait_of, grant_of, hand_of, left_by, lost_grant};
@@ -6,41 +6,41 @@ ghost use Rattle.uvm_sequencer.specs.Sequencers.{is_live_at};
 
 use uvm_sequences::{SeqId, Sequences};
 
-/// How a driver asks for an item.
+/// The way in which a driver requests an item.
 #[derive(Clone, Copy, PartialEq, Eq)]
 pub enum How {
-    /// It waits for one (the standard's `get_next_item`).
+    /// A request that waits for an item (the standard's `get_next_item`).
     Next,
-    /// It is told at once where there is none (`try_next_item`).
+    /// A request that is answered immediately if there is no candidate (`try_next_item`).
     Try,
-    /// It waits, and the item counts as done when it is sent (`get`).
+    /// A request that waits for an item, which is done as soon as it is sent (`get`).
     Get,
 }
 
-/// What comes of asking.
+/// The result of a request of the driver.
 #[derive(Clone, Copy, PartialEq, Eq)]
 pub enum Asked {
-    /// There was no candidate for a `Try`, which has its answer.
+    /// No candidate for a `Try`, whose request is then answered.
     Nothing,
-    /// The driver waits.
+    /// The driver waits for an item.
     Waits,
 }
 
-/// Where the driver of a sequencer stands.
+/// The state of the driver of a sequencer.
 #[derive(Drop)]
 pub enum Driver {
-    /// It has not asked, or has its answer.
+    /// No open request, and no item that the driver holds.
     Idle,
-    /// It asked, and nobody was granted yet.
+    /// A request in this way, for which no sequence is granted yet.
     Waiting(How),
-    /// It asked, and a sequence was granted that has not sent its item.
+    /// A request in this way, for which this sequence is granted and has not sent its item.
     Granted(SeqId, How),
-    /// It has the item of a sequence in hand.
+    /// An item of this sequence, which the driver holds.
     InHand(SeqId),
 }
 
 impl Driver {
-    // Whether it may ask.
+    // Returns whether the driver may request an item.
     pub(crate) fn is_idle(&self) -> bool
         ensures { result ≡ is_idle self.now }
     {
@@ -50,7 +50,7 @@ impl Driver {
         }
     }
 
-    // How it asked, while nobody is granted.
+    // Returns how the driver requested an item, if no sequence is granted yet.
     pub(crate) fn wait(&self) -> Option<How>
         ensures { result ≡ wait_of self.now }
     {
@@ -60,7 +60,7 @@ impl Driver {
         }
     }
 
-    // How it asked, while a sequence is granted.
+    // Returns how the driver requested an item, if `seq` is granted and has not sent.
     pub(crate) fn grant(&self, seq: SeqId) -> Option<How>
         ensures { result ≡ grant_of seq self.now }
     {
@@ -70,7 +70,7 @@ impl Driver {
         }
     }
 
-    // How it asked, where the sequence that was granted lives no longer.
+    // Returns how the driver requested an item, if the granted sequence has not sent and has ended.
     pub(crate) fn lost(&self, sequences: &Sequences) -> Option<How>
         ensures { result ≡ lost_grant (is_live_at sequences.now.steps) self.now }
     {
@@ -80,8 +80,8 @@ impl Driver {
         }
     }
 
-    // The grant lapses for which it asked so, if there is one: a `Try` has its answer, and for another it waits again. Answers whether it
-    // was the grant of a `Try`.
+    // Withdraws the grant for a request that was made with `how`, if there is one. A `Try` is then answered; for any other
+    // request the driver waits again. Returns whether it was the grant of a `Try`.
     pub(crate) fn lapse(&mut self, how: Option<How>) -> bool
         ensures value { result ≡ is_try how }
         ensures after { self.new ≡ left_by how self.old }
@@ -99,7 +99,7 @@ impl Driver {
         }
     }
 
-    // Whose item it has in hand.
+    // Returns the sequence whose item the driver holds, if it holds one.
     pub(crate) fn hand(&self) -> Option<SeqId>
         ensures { result ≡ hand_of self.now }
     {

@@ -1,23 +1,23 @@
-//! Why a call of a sequencer is refused.
+//! Errors of the calls of a sequencer.
 
 use std::alloc::{AllocError, AllocFailed};
 use std::error::Error;
 use std::fmt;
 
-/// Why a call of a sequencer is refused.
+/// An error of a call of a sequencer.
 #[derive(Clone, Copy, Debug, PartialEq, Eq)]
 pub enum SeqFault {
-    /// The port is not the driver of this sequencer.
+    /// The port does not drive this sequencer.
     NoDriver,
-    /// The driver is not idle, or what the sequence asks for was asked for already.
+    /// The driver is not idle, or the sequence has already made this request.
     Twice,
-    /// The driver has no item in hand.
+    /// The driver holds no item.
     NothingOut,
-    /// The sequence was not granted, or has sent its item.
+    /// The sequence is not granted, or has already sent its item.
     NotGranted,
     /// The sequence holds no lock.
     NotHeld,
-    /// Memory was refused.
+    /// An allocation failed.
     Memory,
 }
 

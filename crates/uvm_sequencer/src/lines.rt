@@ -10,7 +10,8 @@ use std::alloc::{AllocError, Global};
 use std::marker::Model;
 use uvm_sequences::{SeqId, Sequences};
 
-// Requests in order, in slots of which the first so many are free: what is put or taken at the front moves nothing there.
+// Requests in order, in slots of which the first `free` are unused. Adding a request at the front moves the others only if no
+// slot is free. Removing one there moves them only if more slots are then free than used.
 #[derive(Drop)]
 pub(crate) struct Line {
     slots: Vec<Request>,
@@ -29,7 +30,7 @@ impl Model for Line {
 }
 
 impl Line {
-    // An empty line. Takes no memory.
+    // Creates an empty line. Allocates no memory.
     pub(crate) fn new(alloc: Global) -> Line
         ensures { result ≡ [] }
     {
@@ -39,7 +40,7 @@ impl Line {
         }
     }
 
-    // How many requests there are.
+    // Returns the number of requests.
     pub(crate) fn len(&self) -> usize
         ensures count { result ≡ length self.now }
         ensures small { length self.now < 2 ^ 63 }
@@ -47,7 +48,7 @@ impl Line {
         self.slots.len() - self.free
     }
 
-    // The requests behind the first so many.
+    // Returns the requests after the first `known`.
     pub(crate) fn behind(&self, known: usize) -> &[Request]
         requires { known ≤ length self.now }
         ensures value { result.now ≡ drop known self.now }
@@ -56,7 +57,7 @@ impl Line {
         &self.slots[self.free + known..]
     }
 
-    // Puts what a sequence wants behind all others. Errors: out of memory, which changes nothing.
+    // Adds a request of a sequence at the end. Errors: out of memory. An error changes nothing.
     pub(crate) fn put_last(&mut self, seq: SeqId, want: Want) -> Result<(), AllocError>
         ensures ok { OnOk result (self.new ≡ self.old ++ record { seq = seq; want = want } ∷ []) }
         ensures err { OnErr result (self.new ≡ self.old) }
@@ -65,7 +66,7 @@ impl Line {
         Ok(())
     }
 
-    // Puts what a sequence wants before all others. Errors: out of memory, which changes nothing.
+    // Adds a request of a sequence at the front. Errors: out of memory. An error changes nothing.
     pub(crate) fn put_first(&mut self, seq: SeqId, want: Want) -> Result<(), AllocError>
         ensures ok { OnOk result (self.new ≡ record { seq = seq; want = want } ∷ self.old) }
         ensures err { OnErr result (self.new ≡ self.old) }
@@ -76,7 +77,7 @@ impl Line {
         Ok(())
     }
 
-    // Takes out the request at a place. Of those before it and those behind it the fewer are moved.
+    // Removes and returns the request at a place. It moves the requests before that place or those after it, whichever are fewer.
     pub(crate) fn remove(&mut self, place: usize) -> Request
         requires { place < length self.old }
         ensures value { result ≡ slice_index_or self.old place result }
@@ -93,7 +94,7 @@ impl Line {
         request
     }
 
-    // Takes out what a sequence asked for.
+    // Removes the requests of a sequence.
     pub(crate) fn take_all(&mut self, seq: SeqId)
         ensures { self.new ≡ without seq self.old }
     {
@@ -102,7 +103,7 @@ impl Line {
         requests::take_all(&mut self.slots, seq);
     }
 
-    // Takes out what sequences asked for that live no longer.
+    // Removes the requests of sequences that have ended.
     pub(crate) fn keep_live(&mut self, sequences: &Sequences)
         ensures { self.new ≡ filter (λ request. is_live_at sequences.now.steps request.seq) self.old }
     {
@@ -112,8 +113,8 @@ impl Line {
     }
 }
 
-// Makes some slots free where none is, half as many as are in use, and answers how many are. Errors: out of memory, which
-// changes nothing.
+// Makes slots free if none is, about half as many as are in use, and returns the number of free slots. Errors: out of memory. An
+// error changes nothing.
 fn free_some(slots: &mut Vec<Request>, free: usize, seq: SeqId) -> Result<usize, AllocError>
     requires { free ≤ length slots.old.items }
     ensures some { IfOk result (λ more. (0 < more) × (more ≤ length slots.new.items)) }
@@ -134,7 +135,7 @@ fn free_some(slots: &mut Vec<Request>, free: usize, seq: SeqId) -> Result<usize,
     Ok(more)
 }
 
-// Moves what is in use to the first slots, where fewer are in use than are free, and answers how many are free then.
+// Moves the used slots to the front if fewer are used than free, and returns the number of slots that are free then.
 fn close(slots: &mut Vec<Request>, free: usize) -> usize
     requires { free ≤ length slots.old.items }
     ensures within { result ≤ length slots.new.items }
@@ -147,7 +148,7 @@ fn close(slots: &mut Vec<Request>, free: usize) -> usize
     0
 }
 
-// Moves what is in use to the first slots.
+// Moves the used slots to the front, and removes the free ones.
 fn close_all(slots: &mut Vec<Request>, free: usize)
     requires { free ≤ length slots.old.items }
     ensures { slots.new.items ≡ drop free slots.old.items }

@@ -1,26 +1,26 @@
-//! How a sequencer chooses.
+//! The arbitration modes of a sequencer.
 
 ghost use Rattle.std.specs.Prelude.{◌≡◌};
 ghost use Rattle.uvm_sequencer.specs.Choices.{is_strict, is_random};
 
-/// How a sequencer chooses among the candidates (the standard's arbitration modes). A priority is a number of at least 1, and
-/// the greater goes first. A random mode wants a word wherever at least two remain to choose from.
+/// The way in which a sequencer chooses among the candidates (the standard's arbitration modes). A priority is at least 1, and a
+/// greater priority goes first. A random mode needs a random number if there are at least two candidates to choose from.
 #[derive(Clone, Copy, PartialEq, Eq)]
 pub enum Mode {
-    /// The first of the queue, whatever its priority.
+    /// The first candidate of the queue, whatever its priority.
     Fifo,
-    /// At random, each with as many chances as its priority says.
+    /// A random candidate, with a chance in proportion to its priority.
     Weighted,
-    /// At random, whatever the priorities.
+    /// A random candidate, whatever the priorities.
     Random,
-    /// The first of greatest priority.
+    /// The first candidate of the greatest priority.
     StrictFifo,
-    /// At random among those of greatest priority.
+    /// A random candidate of the greatest priority.
     StrictRandom,
 }
 
 impl Mode {
-    // Whether only the greatest priority counts.
+    // Returns whether only candidates of the greatest priority can be granted.
     pub(crate) fn is_strict(self) -> bool
         ensures { result ≡ is_strict self }
     {
@@ -30,7 +30,7 @@ impl Mode {
         }
     }
 
-    // Whether a word decides.
+    // Returns whether the mode uses random numbers.
     pub(crate) fn is_random(self) -> bool
         ensures { result ≡ is_random self }
     {

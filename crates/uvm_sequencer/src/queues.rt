@@ -1,4 +1,4 @@
-//! What waits at a sequencer, and who.
+//! The queue of the requests that wait at a sequencer.
 
 ghost use Rattle.std.specs.Prelude.{◌≡◌, ◌≤◌, ◌<◌, ◌+◌, ◌^◌, ◌∷◌, ◌++◌, [], Some, drop, false, filter, length, not, option_map, slice_get, true, IfNone, IfSome, OnErr, OnOk, OnSome};
 ghost use Rattle.std.specs.List.{list_all, list_any};
@@ -14,13 +14,13 @@ use std::collections::HashSet;
 use std::marker::Model;
 use uvm_sequences::{SeqId, Sequences};
 
-// The requests in the order of the queue. Marks tell who waits without a look at them.
+// The requests in the order of the queue. Two sets show which sequences wait, without a scan of the requests.
 #[derive(Drop)]
 pub(crate) struct Queue {
     requests: Line,
-    // Whose item requests wait.
+    // The sequences whose item requests wait.
     items: HashSet<SeqId>,
-    // Whose lock requests wait.
+    // The sequences whose lock requests wait.
     locks: HashSet<SeqId>,
 }
 
@@ -37,7 +37,7 @@ impl Model for Queue {
 }
 
 impl Queue {
-    // Nothing waits. Takes no memory.
+    // Creates an empty queue. Allocates no memory.
     pub(crate) fn new(alloc: Global) -> Queue
         ensures { result ≡ [] }
     {
@@ -48,7 +48,7 @@ impl Queue {
         }
     }
 
-    // How many requests wait, of each sequence one for an item and one for a lock at most.
+    // Returns the number of requests. Each sequence has at most one item request and one lock request.
     pub(crate) fn len(&self) -> usize
         ensures count { result ≡ length self.now }
         ensures small { length self.now < 2 ^ 63 }
@@ -57,7 +57,7 @@ impl Queue {
         self.requests.len()
     }
 
-    // The requests behind the first so many.
+    // Returns the requests after the first `known`.
     pub(crate) fn behind(&self, known: usize) -> &[Request]
         requires { known ≤ length self.now }
         ensures value { result.now ≡ drop known self.now }
@@ -67,35 +67,36 @@ impl Queue {
         self.requests.behind(known)
     }
 
-    // Whether a sequence waits for an item.
+    // Returns whether an item request of a sequence waits.
     pub(crate) fn has_item(&self, seq: SeqId) -> bool
         ensures { result ≡ list_any (is_item_of seq) self.now }
     {
         self.items.contains(&seq)
     }
 
-    // Whether a sequence waits for a lock.
+    // Returns whether a lock request of a sequence waits.
     pub(crate) fn has_lock(&self, seq: SeqId) -> bool
         ensures { result ≡ list_any (is_lock_of seq) self.now }
     {
         self.locks.contains(&seq)
     }
 
-    // Whether each request is for an item.
+    // Returns whether each request is for an item.
     pub(crate) fn are_items(&self) -> bool
         ensures { result ≡ list_all is_item self.now }
     {
         self.locks.is_empty()
     }
 
-    // The sequence that wants to hold the sequencer by the request at a place, if there is one and it is for a lock.
+    // Returns the sequence of the lock request at a place; `None` if there is no lock request at that place.
     pub(crate) fn lock_at(&self, place: usize) -> Option<SeqId>
         ensures { result ≡ option_and_then lock_in (slice_get self.now place) }
     {
         self.requests.behind(0).get(place)?.lock()
     }
 
-    // Puts an item request behind all others. Errors: out of memory, which changes nothing.
+    // Adds an item request at the end. Requires a priority of at least 1, and that no item request of the sequence waits. Errors:
+    // out of memory. An error changes nothing.
     pub(crate) fn put_item(&mut self, seq: SeqId, priority: u16) -> Result<(), AllocError>
         requires priority { 0 < priority }
         requires fresh { list_any (is_item_of seq) self.old ≡ false }
@@ -110,7 +111,8 @@ impl Queue {
         Ok(())
     }
 
-    // Puts a lock request behind all others. Errors: out of memory, which changes nothing.
+    // Adds a lock request at the end. Requires that no lock request of the sequence waits. Errors: out of memory. An error
+    // changes nothing.
     pub(crate) fn put_lock(&mut self, seq: SeqId) -> Result<(), AllocError>
         requires { list_any (is_lock_of seq) self.old ≡ false }
         ensures ok { OnOk result (self.new ≡ self.old ++ lock_request seq ∷ []) }
@@ -124,7 +126,8 @@ impl Queue {
         Ok(())
     }
 
-    // Puts a lock request before all others. Errors: out of memory, which changes nothing.
+    // Adds a lock request at the front. Requires that no lock request of the sequence waits. Errors: out of memory. An error
+    // changes nothing.
     pub(crate) fn put_grab(&mut self, seq: SeqId) -> Result<(), AllocError>
         requires { list_any (is_lock_of seq) self.old ≡ false }
         ensures ok { OnOk result (self.new ≡ lock_request seq ∷ self.old) }
@@ -138,7 +141,7 @@ impl Queue {
         Ok(())
     }
 
-    // Takes out the item request at a place, and answers whose it is.
+    // Removes the item request at a place and returns its sequence. Requires that there is an item request at that place.
     pub(crate) fn take_item(&mut self, place: usize) -> SeqId
         requires { IsSomeAnd (slice_get self.old place) (λ request. is_item request ≡ true) }
         ensures value { option_map (λ request. request.seq) (slice_get self.old place) ≡ Some result }
@@ -150,7 +153,8 @@ impl Queue {
         seq
     }
 
-    // Takes out the lock request at a place, and answers whose it is; none where no lock request stands there.
+    // Removes the lock request at a place and returns its sequence. Returns `None` and changes nothing if there is no lock
+    // request at that place.
     pub(crate) fn take_lock(&mut self, place: usize) -> Option<SeqId>
         ensures value { result ≡ option_and_then lock_in (slice_get self.old place) }
         ensures after { IfSome result (λ seq. self.new ≡ without_lock seq self.old) }
@@ -163,7 +167,7 @@ impl Queue {
         Some(seq)
     }
 
-    // Takes out what a sequence asked for. Where it waits for nothing the requests are not looked at.
+    // Removes the requests of a sequence. The requests are not scanned if the sequence has none.
     pub(crate) fn leave(&mut self, seq: SeqId)
         ensures { self.new ≡ without seq self.old }
     {
@@ -174,7 +178,7 @@ impl Queue {
         }
     }
 
-    // Takes out what sequences asked for that live no longer.
+    // Removes the requests of sequences that have ended.
     pub(crate) fn keep_live(&mut self, sequences: &Sequences)
         ensures { self.new ≡ filter (λ request. is_live_at sequences.now.steps request.seq) self.old }
     {
@@ -184,7 +188,7 @@ impl Queue {
     }
 }
 
-// Takes out the marks of sequences that live no longer.
+// Removes the sequences that have ended from a set of waiting sequences.
 fn keep_marks(marks: &mut HashSet<SeqId>, sequences: &Sequences)
     ensures { marks.new.keys ≡ filter (is_live_at sequences.now.steps) marks.old.keys }
 {

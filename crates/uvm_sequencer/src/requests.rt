@@ -1,4 +1,4 @@
-//! What sequences ask of a sequencer.
+//! The requests of sequences to a sequencer.
 
 ghost use Rattle.std.specs.Prelude.{◌≡◌, filter};
 ghost use Rattle.uvm_sequencer.specs.Sequencers.{is_live_at};
@@ -6,26 +6,26 @@ ghost use Rattle.uvm_sequencer.specs.Queues.{is_item, is_of, lock_in, priority_o
 
 use uvm_sequences::{SeqId, Sequences};
 
-/// What a sequence wants.
+/// What a sequence requests.
 #[derive(Clone, Copy, PartialEq, Eq)]
 pub enum Want {
-    /// To send an item, with a priority of at least 1.
+    /// Permission to send an item, with this priority, which is at least 1.
     Item(u16),
-    /// To hold the sequencer.
+    /// A lock of the sequencer.
     Lock,
 }
 
-/// What a sequence waits for.
+/// A request of a sequence, which waits at a sequencer.
 #[derive(Clone, Copy, PartialEq, Eq)]
 pub struct Request {
     /// The sequence.
     pub seq: SeqId,
-    /// What it wants.
+    /// What it requests.
     pub want: Want,
 }
 
 impl Request {
-    // Whether it is for an item.
+    // Returns whether the request is for an item.
     pub(crate) fn is_item(&self) -> bool
         ensures { result ≡ is_item self.now }
     {
@@ -35,7 +35,7 @@ impl Request {
         }
     }
 
-    // The priority of the item, 0 for a lock.
+    // Returns the priority of an item request; 0 for a lock request.
     pub(crate) fn priority(&self) -> u16
         ensures { result ≡ priority_of self.now }
     {
@@ -45,7 +45,7 @@ impl Request {
         }
     }
 
-    // The sequence that wants to hold the sequencer, if it is for a lock.
+    // Returns the sequence of a lock request; `None` for an item request.
     pub(crate) fn lock(&self) -> Option<SeqId>
         ensures { result ≡ lock_in self.now }
     {
@@ -55,7 +55,7 @@ impl Request {
         }
     }
 
-    // Whether a sequence asked for it.
+    // Returns whether the request is of this sequence.
     fn is_of(&self, seq: SeqId) -> bool
         ensures { result ≡ is_of seq self.now }
     {
@@ -63,14 +63,14 @@ impl Request {
     }
 }
 
-// Takes out what a sequence asked for.
+// Removes the requests of a sequence.
 pub(crate) fn take_all(queue: &mut Vec<Request>, seq: SeqId)
     ensures { queue.new.items ≡ without seq queue.old.items }
 {
     queue.retain(|request| !request.is_of(seq));
 }
 
-// Takes out what sequences asked for that live no longer.
+// Removes the requests of sequences that have ended.
 pub(crate) fn keep_live(queue: &mut Vec<Request>, sequences: &Sequences)
     ensures { queue.new.items ≡ filter (λ request. is_live_at sequences.now.steps request.seq) queue.old.items }
 {

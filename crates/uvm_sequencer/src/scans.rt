@@ -1,21 +1,21 @@
-//! Scans of the queue.
+//! Scans of the queue of a sequencer.
 
 ghost use Rattle.std.specs.Prelude.{◌≡◌, not, length};
 ghost use Rattle.std.specs.List.{position_or_len};
 ghost use Rattle.uvm_sequencer.specs.Queues.{is_blocked, is_candidate, candidates};
 
 use crate::requests::Request;
-use uvm_holders::Holders;
+use uvm_sequencer_holders::Holders;
 use uvm_sequences::Sequences;
 
-// Whether a request is a candidate.
+// Returns whether a request is a candidate: an item request of a sequence that is not blocked.
 pub(crate) fn is_candidate(sequences: &Sequences, holders: &Holders, request: &Request) -> bool
     ensures { result ≡ is_candidate sequences.now.started holders.now.list request.now }
 {
     request.is_item() && !holders.is_blocked(sequences, request.seq)
 }
 
-// How many candidates there are.
+// Returns the number of candidates.
 pub(crate) fn count_candidates(sequences: &Sequences, holders: &Holders, queue: &[Request]) -> usize
     ensures { result ≡ length (candidates sequences.now.started holders.now.list queue.now) }
 {
@@ -25,7 +25,7 @@ pub(crate) fn count_candidates(sequences: &Sequences, holders: &Holders, queue: 
         .count()
 }
 
-// How many requests stand in front of the first of a sequence that is not blocked.
+// Returns the number of requests before the first whose sequence is not blocked; the number of all requests if there is none.
 pub(crate) fn count_passed(sequences: &Sequences, holders: &Holders, queue: &[Request]) -> usize
     ensures { result ≡ position_or_len (λ request. not (is_blocked sequences.now.started holders.now.list request.seq)) queue.now }
 {

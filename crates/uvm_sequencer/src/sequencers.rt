@@ -21,32 +21,33 @@ use crate::queues::Queue;
 use crate::scans;
 use std::alloc::Global;
 use std::marker::Model;
-use uvm_holders::Holders;
+use uvm_sequencer_holders::Holders;
 use uvm_sequences::{SeqId, Sequences};
 use uvm_tree::NodeId;
 
-/// A sequencer (IEEE 1800.2-2020, Clause 15): which sequence may send an item to the driver next. Sequences request to send,
-/// lock and grab; the driver asks, the sequencer grants, the granted sequence sends, and the driver is done. A sequence that
-/// holds the sequencer blocks all others but those under it; several hold it only where each stands under the one before. A
-/// sequence waits for one item and for one lock at most.
+/// A sequencer (IEEE 1800.2-2020, Clause 15): it decides which sequence may send an item to the driver next. Sequences request
+/// items, locks and grabs. The driver requests an item, the sequencer grants a sequence, this sequence sends its item, and the
+/// driver completes it. A sequence that holds the sequencer blocks all others except those under it. Several sequences hold it
+/// only if each is under those that were granted before. A sequence waits for at most one item and one lock.
 ///
-/// Contracts see how it chooses, the port that drives it, where the driver stands, what was asked for in the order of the queue,
-/// and the holders in the order of granting. A grab stands before all others in the queue, a lock and an item request behind
-/// them. Who waits is told by marks: `request` and `lock` look at no request, and `leave` at none where the sequence waits for
-/// nothing. What a grant goes by is looked for from the front of the queue up to where it is decided, which is all of it where
-/// priorities count, and a granted request is taken out at its place. A look at a request whose sequence may be blocked goes up
-/// that sequence's ancestors. The calls that end in `_behind` begin the look behind requests that are known to be of blocked
-/// sequences, as `passed` counts them. None but `request`, `lock` and `grab` takes memory.
+/// In contracts, the value is the mode, the port that drives the sequencer, the state of the driver, the queue and the holders.
+/// The requests are in the order of the queue, the holders in the order of granting. A grab goes to the front of the queue, a
+/// lock request or an item request to its end.
+///
+/// Cost: `request` and `lock` scan no requests, and `leave` scans none if the sequence has none. A grant scans the queue from the
+/// front until it is decided, which takes the whole queue if priorities count. It then removes the granted request at its place.
+/// To check whether a sequence is blocked takes a visit of its ancestors. The calls that end in `_behind` start the scan after
+/// requests whose sequences are known to be blocked, as `passed` counts them. Only `request`, `lock` and `grab` allocate memory.
 pub struct Sequencer {
     mode: Mode,
     port: Option<NodeId>,
     driver: Driver,
     queue: Queue,
-    // There is room for each lock that waits.
+    // There is reserved capacity for each lock that waits.
     holders: Holders,
 }
 
-// (By hand, so that crates above prove no drop of what it holds.)
+// (Written by hand, so that crates that use a sequencer need no proof about the drop of its fields.)
 impl Drop for Sequencer {
     fn drop(self) {
         let Sequencer {
@@ -72,7 +73,7 @@ impl Model for Sequencer {
 }
 
 impl Sequencer {
-    /// A sequencer that nobody drives, and of which nobody asked anything. Takes no memory.
+    /// Creates a sequencer without a driver, requests or holders. Allocates no memory.
     pub fn new(alloc: Global, mode: Mode) -> Sequencer
         ensures { result ≡ new_sequencer mode }
     {
@@ -85,15 +86,16 @@ impl Sequencer {
         }
     }
 
-    /// Names the port that drives it.
+    /// Sets the port that drives the sequencer.
     pub fn set_driver(&mut self, port: NodeId)
         ensures { self.new ≡ with_port port self.old }
     {
         self.port = Some(port);
     }
 
-    /// Requests to send an item, with a priority of at least 1 (the standard's `wait_for_grant`): `Twice` where an item request of
-    /// the sequence waits, or it was granted and has not sent; `Memory` after that. A refusal changes nothing.
+    /// Requests to send an item (the standard's `wait_for_grant`). Requires a priority of at least 1. Errors: `Twice` if an item
+    /// request of the sequence waits, or the sequence is granted and has not sent; out of memory (`Memory`). An error changes
+    /// nothing.
     pub fn request(&mut self, seq: SeqId, priority: u16) -> Result<(), SeqFault>
         requires { 0 < priority }
         ensures ok { OnOk result (request_fault self.old seq ≡ None) }
@@ -108,8 +110,8 @@ impl Sequencer {
         Ok(())
     }
 
-    /// Asks to hold the sequencer, behind all that was asked for before (the standard's `lock`): `Twice` where the sequence waits
-    /// for a lock, `Memory` after that. A refusal changes nothing. `settle` grants the lock.
+    /// Requests to hold the sequencer, after all other requests (the standard's `lock`). `settle` grants the lock. Errors:
+    /// `Twice` if a lock request of the sequence waits; out of memory (`Memory`). An error changes nothing.
     pub fn lock(&mut self, seq: SeqId) -> Result<(), SeqFault>
         ensures ok { OnOk result (lock_fault self.old seq ≡ None) }
         ensures after { OnOk result (self.new ≡ with_lock seq self.old) }
@@ -119,13 +121,14 @@ impl Sequencer {
         if self.queue.has_lock(seq) {
             return Err(SeqFault::Twice);
         }
-        // Room for each that waits, and for this one.
+        // Capacity for each request that waits, and for this one.
         self.holders.reserve(self.queue.len() + 1)?;
         self.queue.put_lock(seq)?;
         Ok(())
     }
 
-    /// Asks to hold the sequencer, as `lock`, but before all that was asked for (the standard's `grab`).
+    /// Requests to hold the sequencer, as `lock`, but before all other requests (the standard's `grab`). The errors are those of
+    /// `lock`.
     pub fn grab(&mut self, seq: SeqId) -> Result<(), SeqFault>
         ensures ok { OnOk result (lock_fault self.old seq ≡ None) }
         ensures after { OnOk result (self.new ≡ with_grab seq self.old) }
@@ -135,14 +138,14 @@ impl Sequencer {
         if self.queue.has_lock(seq) {
             return Err(SeqFault::Twice);
         }
-        // Room for each that waits, and for this one.
+        // Capacity for each request that waits, and for this one.
         self.holders.reserve(self.queue.len() + 1)?;
         self.queue.put_grab(seq)?;
         Ok(())
     }
 
-    /// Gives back the last lock of a sequence (the standard's `unlock` and `ungrab`): `NotHeld` where it holds none, which changes
-    /// nothing.
+    /// Releases the latest lock of a sequence (the standard's `unlock` and `ungrab`). Errors: `NotHeld` if it holds none. An
+    /// error changes nothing.
     pub fn unlock(&mut self, seq: SeqId) -> Result<(), SeqFault>
         ensures value { result ≡ unlocked_by self.old seq }
         ensures ok { OnOk result (self.new ≡ unlocked seq self.old) }
@@ -154,8 +157,8 @@ impl Sequencer {
         Ok(())
     }
 
-    /// The driver asks for an item: `NoDriver` where the port does not drive the sequencer, then `Twice` where the driver is not
-    /// idle. A `Try` has its answer where there is no candidate, and else the driver waits. A refusal changes nothing.
+    /// Requests an item for the driver. Returns `Nothing` if there is no candidate for a `Try`; otherwise the driver waits.
+    /// Errors: `NoDriver` if `port` does not drive the sequencer; `Twice` if the driver is not idle. An error changes nothing.
     pub fn ask(&mut self, sequences: &Sequences, port: NodeId, how: How) -> Result<Asked, SeqFault>
         ensures value { result ≡ unless (ask_fault self.old port) (answer how (candidates_at sequences.now.started self.old)) }
         ensures ok { IfOk result (λ asked. self.new ≡ after_ask how asked self.old) }
@@ -164,8 +167,8 @@ impl Sequencer {
         self.ask_behind(sequences, port, how, 0)
     }
 
-    /// Asks for an item for the driver, as `ask`, where the sequences of the first `known` requests are blocked: the look at the
-    /// queue begins behind them.
+    /// Requests an item for the driver, as `ask`. Requires that the sequences of the first `known` requests are blocked: the scan
+    /// of the queue starts after them.
     pub fn ask_behind(
         &mut self,
         sequences: &Sequences,
@@ -191,8 +194,9 @@ impl Sequencer {
         Ok(Asked::Waits)
     }
 
-    /// A granted sequence sends its item (the standard's `send_request`), and learns how the driver asked: `NotGranted` where it
-    /// was not granted or has sent, which changes nothing. The driver has the item in hand, but for a `Get`, which is done.
+    /// Sends the item of a granted sequence and returns how the driver requested it (the standard's `send_request`). The driver
+    /// then holds the item, except for a `Get`, whose item is done. Errors: `NotGranted` if the sequence is not granted or has
+    /// already sent. An error changes nothing.
     pub fn send(&mut self, seq: SeqId) -> Result<How, SeqFault>
         ensures value { result ≡ or_fault (grant_of seq self.old.driver) SeqFault.NotGranted }
         ensures ok { IfOk result (λ how. self.new ≡ after_send seq how self.old) }
@@ -208,8 +212,8 @@ impl Sequencer {
         Ok(how)
     }
 
-    /// The driver is done with the item in its hand (the standard's `item_done`), and learns whose it was: `NoDriver` where the
-    /// port does not drive the sequencer, then `NothingOut` where the driver has no item in hand. A refusal changes nothing.
+    /// Completes the driver's current item (`item_done`, Clause 15) and returns the sequence that sent it. Errors: `NoDriver` if
+    /// `port` is not the driver's port; `NothingOut` if the driver has no item. An error changes nothing.
     pub fn done(&mut self, port: NodeId) -> Result<SeqId, SeqFault>
         ensures value { result ≡ done_by self.old port }
         ensures ok { OnOk result (self.new ≡ with_idle self.old) }
@@ -225,16 +229,17 @@ impl Sequencer {
         Ok(seq)
     }
 
-    /// Ends what the driver asked, as at the end of a phase: it is idle, whatever it waited for or had in hand, and an unsent grant
-    /// is gone.
+    /// Ends the request of the driver, as at the end of a phase. The driver is then idle, whatever it waited for or held, and a
+    /// grant whose item is not sent is withdrawn.
     pub fn end_ask(&mut self)
         ensures { self.new ≡ with_idle self.old }
     {
         self.driver = Driver::Idle;
     }
 
-    /// A sequence ended: what it asked for and all that it holds are gone, and its unsent grant lapses. Answers whether that was
-    /// the grant of a `Try`, which has its answer then; for another the driver waits again. An item in hand stays there.
+    /// Removes the requests and all locks of a sequence that ends, and withdraws its grant if its item is not sent. Returns
+    /// whether this was the grant of a `Try`, which is then answered; for any other request the driver waits again. An item that
+    /// the driver holds stays.
     pub fn leave(&mut self, seq: SeqId) -> bool
         ensures value { result ≡ is_try (grant_of seq self.old.driver) }
         ensures after { self.new ≡ after_leave seq self.old }
@@ -245,17 +250,17 @@ impl Sequencer {
         self.driver.lapse(grant)
     }
 
-    /// Answers whether `end_phase` lets the grant of a `Try` lapse, where `ends` says whether what the driver asked ends too.
+    /// Returns whether `end_phase` withdraws the grant of a `Try`. `ends` states whether the request of the driver ends too.
     pub fn loses_try(&self, sequences: &Sequences, ends: bool) -> bool
         ensures { result ≡ loses_try ends (is_live_at sequences.now.steps) self.now.driver }
     {
         !ends && matches!(self.driver.lost(sequences), Some(How::Try))
     }
 
-    /// A phase ended, and with it some sequences, and what the driver asked where `ends` says so: the driver is then idle, as after
-    /// `end_ask`. What sequences asked for and hold that live no longer is gone; where the driver's ask goes on, an unsent grant of such
-    /// a sequence lapses, as with `leave`, and an item in hand stays there. Answers whether the grant of a `Try` lapsed. The time is
-    /// that of one look at the queue and the holders.
+    /// Removes the requests and all locks of sequences that have ended, when a phase ends. If `ends` is true, the request of the
+    /// driver ends too, as by `end_ask`. Otherwise a grant of such a sequence whose item is not sent is withdrawn, as by `leave`,
+    /// and an item that the driver holds stays. Returns whether the grant of a `Try` was withdrawn, which is false if `ends` is
+    /// true. Cost: one scan of the queue and the holders.
     pub fn end_phase(&mut self, sequences: &Sequences, ends: bool) -> bool
         ensures value { result ≡ loses_try ends (is_live_at sequences.now.steps) self.old.driver }
         ensures after { self.new ≡ after_phase sequences.now.steps ends self.old }
@@ -270,8 +275,8 @@ impl Sequencer {
         self.driver.lapse(lost)
     }
 
-    /// Grants the lock that leads, and answers whose it is; none where no lock leads. What leads is the first in the queue of a
-    /// sequence that is not blocked. A grant ends one wait.
+    /// Grants the leading lock and returns its sequence. Returns `None` and changes nothing if no lock leads. The first request
+    /// of the queue whose sequence is not blocked leads. A grant ends exactly one wait.
     pub fn settle(&mut self, sequences: &Sequences) -> Option<SeqId>
         ensures value { result ≡ lock_at sequences.now.started self.old }
         ensures some { IfSome result (λ seq. self.new ≡ locked seq self.old) }
@@ -281,8 +286,8 @@ impl Sequencer {
         self.settle_behind(sequences, 0)
     }
 
-    /// Grants the lock that leads, as `settle`, where the sequences of the first `known` requests are blocked: the look at the queue
-    /// begins behind them.
+    /// Grants the leading lock, as `settle`. Requires that the sequences of the first `known` requests are blocked: the scan of
+    /// the queue starts after them.
     pub fn settle_behind(&mut self, sequences: &Sequences, known: usize) -> Option<SeqId>
         requires { IsPassed sequences.now.started self.old known }
         ensures value { result ≡ lock_at sequences.now.started self.old }
@@ -296,15 +301,15 @@ impl Sequencer {
         Some(seq)
     }
 
-    /// The sequence whose lock leads, which `settle` grants; none where no lock leads.
+    /// Returns the sequence of the leading lock, which `settle` grants; `None` if no lock leads.
     pub fn leading_lock(&self, sequences: &Sequences) -> Option<SeqId>
         ensures { result ≡ lock_at sequences.now.started self.now }
     {
         self.leading_lock_behind(sequences, 0)
     }
 
-    /// Names the sequence whose lock leads, as `leading_lock`, where the sequences of the first `known` requests are blocked: the
-    /// look at the queue begins behind them.
+    /// Returns the sequence of the leading lock, as `leading_lock`. Requires that the sequences of the first `known` requests are
+    /// blocked: the scan of the queue starts after them.
     pub fn leading_lock_behind(&self, sequences: &Sequences, known: usize) -> Option<SeqId>
         requires { IsPassed sequences.now.started self.now known }
         ensures { result ≡ lock_at sequences.now.started self.now }
@@ -312,8 +317,9 @@ impl Sequencer {
         self.queue.lock_at(self.leading(sequences, known))
     }
 
-    /// Counts the requests in front of the first whose sequence is not blocked, all where there is none. The sequences of the first
-    /// `known` requests are blocked: the look at the queue begins behind them, and ends at the first that is not.
+    /// Returns the number of requests before the first whose sequence is not blocked, or of all requests if there is none.
+    /// Requires that the sequences of the first `known` requests are blocked. The scan starts after them, and ends at the first
+    /// request that is not blocked.
     pub fn passed(&self, sequences: &Sequences, known: usize) -> usize
         requires { IsPassed sequences.now.started self.now known }
         ensures passed { IsPassed sequences.now.started self.now result }
@@ -324,7 +330,7 @@ impl Sequencer {
         known + scans::count_passed(sequences, &self.holders, rest)
     }
 
-    /// How many item requests and locks wait: of each sequence one item request and one lock at most.
+    /// Returns the number of item requests and lock requests that wait. Each sequence has at most one of each.
     pub fn waiting(&self) -> usize
         ensures count { result ≡ length self.now.queue }
         ensures single { AreSingle self.now.queue }
@@ -332,23 +338,23 @@ impl Sequencer {
         self.queue.len()
     }
 
-    /// How many candidates there are: item requests of sequences that are not blocked.
+    /// Returns the number of candidates, which are the item requests of sequences that are not blocked.
     pub fn candidates(&self, sequences: &Sequences) -> usize
         ensures { result ≡ length (candidates_at sequences.now.started self.now) }
     {
         scans::count_candidates(sequences, &self.holders, self.queue.behind(0))
     }
 
-    /// Whether `choose` can grant an item request: none where the driver does not wait or there is no candidate, and else whether
-    /// a word decides, which is so in a random mode where at least two remain to choose from.
+    /// Returns whether a random number decides what `choose` grants: in a random mode, if there are at least two candidates to
+    /// choose from. Returns `None` if `choose` can grant nothing: the driver does not wait, or there is no candidate.
     pub fn ready(&self, sequences: &Sequences) -> Option<bool>
         ensures { result ≡ ready_at sequences.now.started self.now }
     {
         self.ready_behind(sequences, 0)
     }
 
-    /// Tells whether `choose` can grant an item request, as `ready`, where the sequences of the first `known` requests are blocked:
-    /// the look at the queue begins behind them.
+    /// Returns the result of `ready`. Requires that the sequences of the first `known` requests are blocked: the scan of the
+    /// queue starts after them.
     pub fn ready_behind(&self, sequences: &Sequences, known: usize) -> Option<bool>
         requires { IsPassed sequences.now.started self.now known }
         ensures { result ≡ ready_at sequences.now.started self.now }
@@ -359,8 +365,8 @@ impl Sequencer {
         Some(self.choices(sequences, known).is_drawn(self.mode))
     }
 
-    /// Grants an item request, and answers whose it is. The driver waits, there is a candidate, and a word is given exactly where
-    /// one decides, as `ready` tells. The grant ends one wait.
+    /// Grants an item request and returns its sequence. Requires that `ready` is not `None`, and that `word` is a random number
+    /// if `ready` is `Some(true)` and `None` otherwise. The grant ends exactly one wait.
     pub fn choose(&mut self, sequences: &Sequences, word: Option<u64>) -> SeqId
         requires { ready_at sequences.now.started self.old ≡ Some (is_some word) }
         ensures value { Some result ≡ choice_at sequences.now.started self.old word }
@@ -370,8 +376,8 @@ impl Sequencer {
         self.choose_behind(sequences, 0, word)
     }
 
-    /// Grants an item request, as `choose`, where the sequences of the first `known` requests are blocked: the look at the queue
-    /// begins behind them.
+    /// Grants an item request, as `choose`. Requires that the sequences of the first `known` requests are blocked: the scan of
+    /// the queue starts after them.
     pub fn choose_behind(&mut self, sequences: &Sequences, known: usize, word: Option<u64>) -> SeqId
         requires known { IsPassed sequences.now.started self.old known }
         requires ready { ready_at sequences.now.started self.old ≡ Some (is_some word) }
@@ -388,7 +394,7 @@ impl Sequencer {
         seq
     }
 
-    // Where the request stands that leads, behind all where none does.
+    // Returns the place of the leading request; the length of the queue if there is none.
     fn leading(&self, sequences: &Sequences, known: usize) -> usize
         requires { IsPassed sequences.now.started self.now known }
         ensures { option_and_then lock_in (slice_get self.now.queue result) ≡ lock_at sequences.now.started self.now }
@@ -396,7 +402,7 @@ impl Sequencer {
         self.passed(sequences, known)
     }
 
-    // Where the item request stands that is granted.
+    // Returns the place of the item request to grant.
     fn chosen(&self, sequences: &Sequences, known: usize, word: Option<u64>) -> usize
         requires known { IsPassed sequences.now.started self.now known }
         requires ready { ready_at sequences.now.started self.now ≡ Some (is_some word) }
@@ -410,14 +416,15 @@ impl Sequencer {
         known + place
     }
 
-    // Whether each request is a contender, since nobody holds the sequencer, no lock waits, and priorities do not count.
+    // Returns whether each request is a contender because there are no holders, no lock request waits, and the mode is not
+    // strict.
     fn are_all_contenders(&self) -> bool
         ensures { result ≡ (not (is_strict self.now.mode) && ((length self.now.holders == 0) && list_all is_item self.now.queue)) }
     {
         !self.mode.is_strict() && self.holders.is_empty() && self.queue.are_items()
     }
 
-    // Whether there is a candidate.
+    // Returns whether there is a candidate.
     fn has_candidate(&self, sequences: &Sequences, known: usize) -> bool
         requires { IsPassed sequences.now.started self.now known }
         ensures { result ≡ nat_lt 0 (length (candidates_at sequences.now.started self.now)) }
@@ -425,7 +432,7 @@ impl Sequencer {
         self.choices(sequences, known).has_candidate()
     }
 
-    // What there is to choose among: the queue behind requests that are no candidates.
+    // Returns the requests to choose from: the queue after the first `known` requests, which are not candidates.
     fn choices<'a>(&'a self, sequences: &'a Sequences, known: usize) -> Choices<'a>
         requires { IsPassed sequences.now.started self.now known }
         ensures sequences { result.sequences.now ≡ sequences.now }
@@ -442,7 +449,7 @@ impl Sequencer {
         }
     }
 
-    // Whether a port drives it.
+    // Returns whether a port drives the sequencer.
     fn is_driver(&self, port: NodeId) -> bool
         ensures { result ≡ is_driver self.now.port port }
     {

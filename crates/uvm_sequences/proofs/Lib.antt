@@ -1,3 +1,4 @@
+mod Common
 pub mod Living
 pub mod Numbers
 pub mod Steps

@@ -1,12 +1,5 @@
 -- What is said of sequences by their parents and their steps.
-use Rattle.std.proofs.Common.{◌≡◌, ◌<◌, ℕ, suc, Bool, true, false, List, [], ◌∷◌, ◌++◌, length, Option, Some, None, IsSome, IfSome, refl, ap, sym, ◌∙◌, arith, append_assoc, if◌then◌else◌}
-use Rattle.std.specs.Prelude.{◌==◌}
-use Rattle.std.proofs.lemmas.Bool.Decides.{nat_tests}
-use Rattle.std.specs.List.{filter_map}
-use Rattle.std.specs.Option.{option_and_then, option_map, option_map_or, option_to_list}
-use Rattle.uvm_sequences.specs.declared.starts.SeqStep.{SeqStep}
-use Rattle.uvm_sequences.specs.Sequences.{Start, AreStarted, ancestors_of, name_at, numbered, parent_of, with_step}
-use Rattle.uvm_sequences.specs.Laws.{AncestorsByParents, LiveIsStarted, StepsChangeAlone}
+use Rattle.uvm_sequences.proofs.Common.{◌≡◌, ◌<◌, ℕ, suc, Bool, true, false, List, [], ◌∷◌, ◌++◌, length, Option, Some, None, IsSome, IfSome, refl, ap, sym, ◌∙◌, arith, append_assoc, if◌then◌else◌, ◌==◌, nat_tests, filter_map, option_and_then, option_map, option_map_or, option_to_list, SeqStep, Start, AreStarted, ancestors_of, name_at, numbered, parent_of, with_step, AncestorsByParents, LiveIsStarted, StepsChangeAlone}
 use Rattle.uvm_sequences.proofs.Unders.{ancestors-none, ancestors-parent, parent-older}
 
 by_parent : (started : List Start) (id : ℕ) (found : Option ℕ) → parent_of started id ≡ found → IfSome found (λ parent. parent < id) → ancestors_of started id ≡ option_map_or (λ parent. parent ∷ ancestors_of started parent) found []

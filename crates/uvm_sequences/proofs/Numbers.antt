@@ -1,13 +1,5 @@
 -- The one of a number, in a list with the newest first.
-use Rattle.std.proofs.Common.{◌≡◌, ◌≤◌, ℕ, zero, suc, Bool, true, false, List, [], ◌∷◌, ◌++◌, length, reverse, map, Option, Some, None, IsSome, refl, sym, ap, ◌∙◌, arith, if◌then◌else◌}
-use Rattle.std.specs.Prelude.{◌==◌}
-use Rattle.std.proofs.lemmas.Bool.Decides.{nat_tests}
-use Rattle.std.specs.List.{slice_get}
-use Rattle.std.specs.Option.{option_and_then, option_map}
-use Rattle.std.proofs.lemmas.Option.{slice_get-map}
-use Rattle.std.proofs.lemmas.List.{reverse-append, length-reverse, reverse-reverse}
-use Rattle.uvm_sequences.specs.Sequences.{numbered}
-use Rattle.uvm_sequences.specs.Kept.{place_in}
+use Rattle.uvm_sequences.proofs.Common.{◌≡◌, ◌≤◌, ℕ, zero, suc, Bool, true, false, List, [], ◌∷◌, ◌++◌, length, reverse, map, Option, Some, None, IsSome, refl, sym, ap, ◌∙◌, arith, if◌then◌else◌, ◌==◌, nat_tests, slice_get, option_and_then, option_map, slice_get-map, reverse-append, length-reverse, reverse-reverse, numbered, place_in}
 use Prim.Native.Nat.compare
 
 other_suc : (k : ℕ) → (suc k == 0) ≡ false

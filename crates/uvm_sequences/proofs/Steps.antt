@@ -1,15 +1,5 @@
 -- What is written of one sequence, and one sequence more.
-use Rattle.std.proofs.Common.{◌≡◌, ◌<◌, ◌≤◌, ◌+◌, ℕ, zero, suc, Bool, true, false, List, [], ◌∷◌, ◌++◌, length, reverse, map, Option, Some, None, IsSome, refl, sym, ap, ◌∙◌, arith, slice_set, length-append, if◌then◌else◌}
-use Rattle.std.specs.Prelude.{◌==◌}
-use Rattle.std.proofs.lemmas.Bool.Decides.{nat_tests}
-use Rattle.std.specs.List.{slice_index_or}
-use Rattle.std.specs.Option.{ForSome}
-use Rattle.std.proofs.lemmas.List.{reverse-append, map-set, map-append, length-map, length-reverse}
-use Rattle.std.proofs.Math.Seq.{map-set_same}
-use Rattle.uvm_sequences.specs.declared.starts.Sequence.{Sequence}
-use Rattle.uvm_sequences.specs.declared.starts.SeqStep.{SeqStep}
-use Rattle.uvm_sequences.specs.Sequences.{numbered, with_step, AreStarted, IsSequences}
-use Rattle.uvm_sequences.specs.Kept.{place_in, start_of, starts_of, steps_of}
+use Rattle.uvm_sequences.proofs.Common.{◌≡◌, ◌<◌, ◌≤◌, ◌+◌, ℕ, zero, suc, Bool, true, false, List, [], ◌∷◌, ◌++◌, length, reverse, map, Option, Some, None, IsSome, refl, sym, ap, ◌∙◌, arith, slice_set, length-append, if◌then◌else◌, ◌==◌, nat_tests, slice_index_or, ForSome, reverse-append, map-set, map-append, length-map, length-reverse, map-set_same, Sequence, SeqStep, numbered, with_step, AreStarted, IsSequences, place_in, start_of, starts_of, steps_of}
 use Rattle.uvm_sequences.proofs.Numbers.{numbered-within, place-number, same_suc}
 
 abbrev Step : Type 0

@@ -1,11 +1,5 @@
 -- Who stands under whom.
-use Rattle.std.proofs.Common.{◌≡◌, ◌≤◌, ◌<◌, ℕ, Bool, true, false, List, [], ◌∷◌, length, Option, Some, None, IsSome, IfSome, refl, sym, ap, subst, ◌∙◌, arith, if◌then◌else◌}
-use Rattle.std.specs.Prelude.{◌==◌, ◌||◌}
-use Rattle.std.proofs.lemmas.Bool.Decides.{nat_tests}
-use Rattle.std.specs.List.{list_any}
-use Rattle.std.specs.Option.{option_and_then, option_map_or, ForSome}
-use Rattle.uvm_sequences.specs.Sequences.{Start, numbered, parent_of, ancestors_of, is_under, AreStarted}
-use Rattle.uvm_sequences.specs.Laws.{AncestorsStay}
+use Rattle.uvm_sequences.proofs.Common.{◌≡◌, ◌≤◌, ◌<◌, ℕ, Bool, true, false, List, [], ◌∷◌, length, Option, Some, None, IsSome, IfSome, refl, sym, ap, subst, ◌∙◌, arith, if◌then◌else◌, ◌==◌, ◌||◌, nat_tests, list_any, option_and_then, option_map_or, ForSome, Start, numbered, parent_of, ancestors_of, is_under, AreStarted, AncestorsStay}
 use Rattle.uvm_sequences.proofs.Numbers.{numbered-within}
 
 not_last : (n m : ℕ) → n < m → (n == m) ≡ false

@@ -1,4 +1,4 @@
 pub mod Laws
 pub mod Sequences
--- what the bodies go by, and no caller cites
-pub mod Kept
+-- internal definitions, which the function bodies use and no caller needs
+pub mod Representation

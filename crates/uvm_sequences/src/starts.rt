@@ -1,17 +1,17 @@
-//! The sequences that were started.
+//! The list of the sequences that were started.
 
 ghost use Rattle.std.specs.Prelude.{◌≡◌, ◌+◌, ◌<◌, ◌≤◌, ◌∷◌, ◌++◌, [], length, None, Some, OnOk, OnErr, IfOk, IfSome, IsOk, IsSome, is_some, option_map, nat_le, vec_len, vec_capacity};
 ghost use Rattle.std.specs.Option.{option_copied, option_and_then, option_to_list, ForSome};
 ghost use Rattle.uvm_sequences.specs.Sequences.{capacity_of, name_at, names_of, numbered, parent_of, step_at, step_after, with_step, stepped, finished, is_under, IsSequences};
-ghost use Rattle.uvm_sequences.specs.Kept.{most_sequences, place_in, start_of, starts_of, steps_of};
+ghost use Rattle.uvm_sequences.specs.Representation.{most_sequences, place_in, start_of, starts_of, steps_of};
 
 use std::alloc::{AllocError, Global};
 use std::marker::Model;
 use uvm_glob::Name;
 use uvm_tree::NodeId;
 
-/// A sequence: its number, from 1, in the order in which sequences were started. `Sequences::start` gives these numbers; one
-/// of another list of sequences stands for the sequence of that number.
+/// A sequence: its number, from 1, in the order in which sequences were started. `Sequences::start` returns these numbers. A
+/// `SeqId` of another list of sequences means the sequence of that number.
 #[derive(Clone, Copy, PartialEq, Eq, Hash)]
 pub struct SeqId {
     number: u32,
@@ -28,7 +28,7 @@ impl Model for SeqId {
 }
 
 impl SeqId {
-    /// The number.
+    /// Returns the number.
     pub fn number(self) -> u64
         ensures { result ≡ self }
     {
@@ -36,19 +36,19 @@ impl SeqId {
     }
 }
 
-/// Where a live sequence stands (the standard's `pre_start`, `body` and `post_start`).
+/// The step of an active sequence (the standard's `pre_start`, `body` and `post_start`).
 #[derive(Clone, Copy, PartialEq, Eq)]
 pub enum SeqStep {
-    /// Before its body.
+    /// The step before the body.
     PreStart,
-    /// In its body.
+    /// The body.
     Body,
-    /// Behind its body.
+    /// The step after the body.
     PostStart,
 }
 
 impl SeqStep {
-    // The step after one, none after the last.
+    // Returns the step after this one; `None` after the last.
     fn following(self) -> Option<SeqStep>
         ensures { result ≡ step_after self }
     {
@@ -60,7 +60,7 @@ impl SeqStep {
     }
 }
 
-// How a sequence was started, and the step at which it is while it lives.
+// How a sequence was started, and its step while it is active.
 #[derive(Drop)]
 struct Sequence {
     home: NodeId,
@@ -70,19 +70,18 @@ struct Sequence {
     step: Option<SeqStep>,
 }
 
-/// The sequences that were started (IEEE 1800.2-2020, Clause 14): on which sequencer, by which sequence, with what name and
-/// priority, and at which step each of them is while it lives. A sequence that ended keeps its number, its parent and its
-/// children.
+/// The sequences that were started (IEEE 1800.2-2020, Clause 14). Each has its sequencer, its parent, its name and its priority,
+/// and a step while it is active. A sequence that has ended keeps its number, its parent and its children.
 ///
-/// Contracts see how each was started and its step, the newest first, and beside them for how many more there is room. The
-/// time of a call does not grow with the sequences, but where `start` or `reserve` moves them to find room, and for `is_under` and
-/// `names`, which go up from parent to parent. None but `start`, `reserve` and `names` takes memory.
+/// In contracts, the value is the start and the step of each sequence, newest first, and for how many more there is reserved
+/// capacity. Cost: each call takes constant time, with these exceptions. `start` and `reserve` may move all sequences to a larger
+/// allocation. `is_under` and `names` go from parent to parent. Only `start`, `reserve` and `names` allocate memory.
 pub struct Sequences {
-    // By their numbers.
+    // In the order of their numbers.
     sequences: Vec<Sequence>,
 }
 
-// (By hand, so that crates above prove no drop of what it holds.)
+// (Written by hand, so that crates that use the sequences need no proof about the drop of the field.)
 impl Drop for Sequences {
     fn drop(self) {
         let Sequences { sequences: _ } = self;
@@ -92,7 +91,7 @@ impl Drop for Sequences {
 impl Model for Sequences {
     ghost use Rattle.std.specs.Prelude.{vec_len, vec_capacity};
     ghost use Rattle.uvm_sequences.specs.Sequences.{SequencesValue, AreStarted};
-    ghost use Rattle.uvm_sequences.specs.Kept.{spare_in, starts_of, steps_of};
+    ghost use Rattle.uvm_sequences.specs.Representation.{spare_in, starts_of, steps_of};
 
     ghost Value = { SequencesValue };
 
@@ -102,7 +101,7 @@ impl Model for Sequences {
 }
 
 impl Sequences {
-    /// No sequence. Takes no memory.
+    /// Creates an empty list of sequences. Allocates no memory.
     pub fn new(alloc: Global) -> Sequences
         ensures started { result.started ≡ [] }
         ensures steps { result.steps ≡ [] }
@@ -112,8 +111,9 @@ impl Sequences {
         }
     }
 
-    /// Makes room for a sequence: the next `start` then takes no memory. Errors: out of memory, or out of numbers, which has 32
-    /// bits; it changes no sequence, and does not come where there is room. No room is given up.
+    /// Reserves capacity for one sequence: the next `start` then allocates no memory. Errors, both `AllocError` and only if no
+    /// capacity is reserved: out of numbers, which have 32 bits; out of memory. An error changes no sequence. The call never
+    /// reduces the reserved capacity.
     pub fn reserve(&mut self) -> Result<(), AllocError>
         ensures started { self.new.started ≡ self.old.started }
         ensures steps { self.new.steps ≡ self.old.steps }
@@ -127,9 +127,10 @@ impl Sequences {
         self.sequences.reserve(1)
     }
 
-    /// Starts a sequence on a sequencer, its home, with a priority of at least 1 (the standard's `start`): it stands before its
-    /// body. The parent, if one is given, was started here, and may have ended. Errors: out of memory, or out of numbers, which
-    /// has 32 bits; it starts nothing, and does not come where there is room. No room is given up, also where it fails.
+    /// Starts a sequence on a sequencer, its home, and returns its number (the standard's `start`). Its step is `PreStart`.
+    /// Requires a priority of at least 1, and a parent, if one is given, that was started here; the parent may have ended.
+    /// Errors, both `AllocError` and only if no capacity is reserved: out of numbers, which have 32 bits; out of memory. An error
+    /// starts nothing. The total capacity is never reduced, even by an error.
     pub fn start(
         &mut self,
         home: NodeId,
@@ -161,8 +162,8 @@ impl Sequences {
         })
     }
 
-    /// Moves a live sequence to its next step, and answers that. In its last step, where `finish` follows, and where the sequence
-    /// does not live, nothing changes.
+    /// Moves an active sequence to its next step and returns that step. Returns `None` and changes nothing in the last step,
+    /// which `finish` ends, and if the sequence is not active.
     pub fn step(&mut self, id: SeqId) -> Option<SeqStep>
         ensures value { result ≡ option_and_then step_after (step_at self.old.steps id) }
         ensures after { self.new ≡ stepped id result self.old }
@@ -172,14 +173,14 @@ impl Sequences {
         Some(step)
     }
 
-    /// Ends a sequence, if it lives.
+    /// Ends a sequence, if it is active.
     pub fn finish(&mut self, id: SeqId)
         ensures { self.new ≡ finished id self.old }
     {
         write_step(&mut self.sequences, id, None);
     }
 
-    /// Whether a sequence was started and has not ended.
+    /// Returns whether a sequence was started and has not ended.
     pub fn is_live(&self, id: SeqId) -> bool
         ensures live { result ≡ is_some (step_at self.now.steps id) }
         ensures sequences { IsSequences self.now }
@@ -188,14 +189,15 @@ impl Sequences {
         self.step_of(id).is_some()
     }
 
-    /// The step at which a live sequence is.
+    /// Returns the step of an active sequence; `None` if the sequence is not active.
     pub fn step_of(&self, id: SeqId) -> Option<SeqStep>
         ensures { result ≡ step_at self.now.steps id }
     {
         self.sequence(id)?.step
     }
 
-    /// The sequence that started a sequence, if one did. It has a smaller number, so that the way up from parent to parent ends.
+    /// Returns the parent of a sequence, which is the sequence that started it, if any. A parent has a smaller number than its
+    /// child, so that the way from parent to parent ends.
     pub fn parent(&self, id: SeqId) -> Option<SeqId>
         ensures parent { result ≡ parent_of self.now.started id }
         ensures older { IfSome result (λ parent. parent < id) }
@@ -204,21 +206,21 @@ impl Sequences {
         self.sequence(id)?.parent
     }
 
-    /// The sequencer on which a sequence was started.
+    /// Returns the sequencer on which a sequence was started; `None` if it was not started.
     pub fn home(&self, id: SeqId) -> Option<NodeId>
         ensures { result ≡ option_map (λ start. start.home) (numbered self.now.started id) }
     {
         Some(self.sequence(id)?.home)
     }
 
-    /// The name of a sequence. Sequences may have one name.
+    /// Returns the name of a sequence; `None` if it was not started. Several sequences may have the same name.
     pub fn name(&self, id: SeqId) -> Option<&Name>
         ensures { option_copied result ≡ name_at self.now.started id }
     {
         Some(&self.sequence(id)?.name)
     }
 
-    /// The priority of a sequence, which is at least 1.
+    /// Returns the priority of a sequence, which is at least 1; `None` if it was not started.
     pub fn priority(&self, id: SeqId) -> Option<u16>
         ensures priority { result ≡ option_map (λ start. start.priority) (numbered self.now.started id) }
         ensures positive { IfSome result (λ priority. 0 < priority) }
@@ -227,8 +229,8 @@ impl Sequences {
         Some(self.sequence(id)?.priority)
     }
 
-    /// The names from the root of a sequence, which no sequence started, down to itself; none where it was not started. Errors:
-    /// out of memory.
+    /// Returns the names from the root sequence, which has no parent, down to the sequence itself. The list is empty if the
+    /// sequence was not started. Errors: out of memory.
     pub fn names(&self, alloc: Global, id: SeqId) -> Result<Vec<Name>, AllocError>
         ensures { IfOk result (λ names. names.items ≡ names_of self.now.started id) }
     {
@@ -243,7 +245,8 @@ impl Sequences {
         Ok(names)
     }
 
-    /// Whether a sequence is another, or the other is its parent, the parent of that, and so on. Dead ones count as live ones.
+    /// Returns whether a sequence is `above`, or `above` is one of its ancestors: its parent, the parent of that, and so on.
+    /// Sequences that have ended count too.
     pub fn is_under(&self, id: SeqId, above: SeqId) -> bool
         ensures { result ≡ is_under self.now.started id above }
     {
@@ -259,14 +262,14 @@ impl Sequences {
         at == above
     }
 
-    // Whether there are as many sequences as numbers.
+    // Returns whether there are as many sequences as numbers.
     fn is_full(&self) -> bool
         ensures { result ≡ nat_le most_sequences (length self.now.started) }
     {
         self.sequences.len() >= u32::MAX as usize
     }
 
-    // The sequence of a number.
+    // Returns the sequence of a number; `None` if it was not started.
     fn sequence(&self, id: SeqId) -> Option<&Sequence>
         ensures start { option_map start_of (option_copied result) ≡ numbered self.now.started id }
         ensures step { option_map (λ s. s.step) (option_copied result) ≡ numbered self.now.steps id }
@@ -278,7 +281,7 @@ impl Sequences {
     }
 }
 
-// Puts a name behind others, if there is one. Errors: out of memory.
+// Adds a name at the end, if there is one. Errors: out of memory.
 fn push_some(names: &mut Vec<Name>, name: Option<&Name>) -> Result<(), AllocError>
     ensures { OnOk result (names.new.items ≡ names.old.items ++ option_to_list (option_copied name.entry)) }
 {
@@ -288,7 +291,7 @@ fn push_some(names: &mut Vec<Name>, name: Option<&Name>) -> Result<(), AllocErro
     Ok(())
 }
 
-// Writes the step of a sequence, if it was started.
+// Sets the step of a sequence, if it was started.
 fn write_step(sequences: &mut Vec<Sequence>, id: SeqId, step: Option<SeqStep>)
     ensures steps { steps_of sequences.new.items ≡ with_step id step (steps_of sequences.old.items) }
     ensures started { starts_of sequences.new.items ≡ starts_of sequences.old.items }
@@ -304,7 +307,7 @@ fn write_step(sequences: &mut Vec<Sequence>, id: SeqId, step: Option<SeqStep>)
     }
 }
 
-// Where the sequence of a number stands.
+// Returns the place of the sequence of a number in the list, counted from 0; `None` for number 0.
 fn place_of(id: SeqId) -> Option<usize>
     ensures { result ≡ place_in id }
 {

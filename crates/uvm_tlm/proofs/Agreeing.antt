@@ -1,17 +1,5 @@
 -- The kind of a port, along routes.
-use Rattle.std.proofs.Common.{◌≡◌, ℕ, true, false, not, ◌&&◌, List, [], All, Contains, Option, Some, None, filter, option_and_then, refl, sym, ap, ◌∙◌}
-use Rattle.std.specs.Option.{option_map_or}
-use Rattle.std.proofs.lemmas.Bool.{and_parts, false≢true}
-use Rattle.std.proofs.lemmas.List.Elements.{All-contains, All-nil, All-weaker, filter_passes}
-use Rattle.std.proofs.lemmas.Option.{none-some, same_Some}
-use Rattle.uvm_tlm.specs.declared.ends.End.{End}
-use Rattle.uvm_tlm.specs.declared.ends.End.TheVariants.{Port, Export, Imp, Fifo, Sequencer}
-use Rattle.uvm_tlm.specs.declared.ends.PortKind.{PortKind}
-use Rattle.uvm_tlm.specs.declared.ends.PortKind.TheVariants.{Put, Get, Analysis, Seq}
-use Rattle.uvm_tlm.specs.declared.wirings.Connection.{Connection}
-use Rattle.uvm_tlm.specs.Ends.{accepts, agrees, is_port, port_kind, same_kind}
-use Rattle.uvm_tlm.specs.Laws.{Route, over, along, accepts_at}
-use Rattle.uvm_tlm.specs.Wirings.{WiringValue, IsWiring, end_at, is_target_at, kind_at, may_connect, reaches, targets_in, targets_of}
+use Rattle.uvm_tlm.proofs.Common.{◌≡◌, ℕ, true, false, not, ◌&&◌, List, [], All, Contains, Option, Some, None, filter, option_and_then, refl, sym, ap, ◌∙◌, option_map_or, and_parts, false≢true, All-contains, All-nil, All-weaker, filter_passes, none-some, same_Some, End, Port, Export, Imp, Fifo, Sequencer, PortKind, Put, Get, Analysis, Seq, Connection, accepts, agrees, is_port, port_kind, same_kind, Route, over, along, accepts_at, WiringValue, IsWiring, end_at, is_target_at, kind_at, may_connect, reaches, targets_in, targets_of}
 use Rattle.uvm_tlm.proofs.Routes.{route_of}
 
 -- the kind in which a port or an export asks

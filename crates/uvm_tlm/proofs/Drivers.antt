@@ -1,17 +1,5 @@
 -- The driver of a sequencer.
-use Rattle.std.proofs.Common.{◌≡◌, ℕ, Bool, true, false, cond, not, eqb, List, [], ◌∷◌, ◌||◌, Option, Some, None, find, option_and_then, is_some, refl, sym, ap, ◌∙◌}
-use Rattle.std.specs.List.{list_any}
-use Rattle.std.specs.Option.{option_map_or}
-use Rattle.std.proofs.lemmas.Bool.{eqb-true, false≢true}
-use Rattle.std.proofs.lemmas.Option.{none-some, same_Some}
-use Rattle.uvm_glob.specs.Faults.{fault_if}
-use Rattle.uvm_tlm.specs.declared.ends.End.{End}
-use Rattle.uvm_tlm.specs.declared.ends.PortKind.{PortKind}
-use Rattle.uvm_tlm.specs.declared.ends.PortKind.TheVariants.{Put, Get, Analysis, Seq}
-use Rattle.uvm_tlm.specs.declared.faults.WireFault.TheVariants.{TooMany}
-use Rattle.uvm_tlm.specs.Ends.{port_kind}
-use Rattle.uvm_tlm.specs.Laws.{IsDriver, driven_from}
-use Rattle.uvm_tlm.specs.Wirings.{WiringValue, IsWiring, IsPathOrder, driven_by, driver_in, end_at, fault_in, is_some_of, kind_at, port_fault, targets_in, targets_of, wire_fault}
+use Rattle.uvm_tlm.proofs.Common.{◌≡◌, ℕ, Bool, true, false, cond, not, eqb, List, [], ◌∷◌, ◌||◌, Option, Some, None, find, option_and_then, is_some, refl, sym, ap, ◌∙◌, list_any, option_map_or, eqb-true, false≢true, none-some, same_Some, fault_if, End, PortKind, Put, Get, Analysis, Seq, TooMany, port_kind, IsDriver, driven_from, WiringValue, IsWiring, IsPathOrder, driven_by, driver_in, end_at, fault_in, is_some_of, kind_at, port_fault, targets_in, targets_of, wire_fault}
 use Rattle.uvm_tlm.proofs.Lists.{eqb-same}
 use Rattle.uvm_tlm.proofs.Routes.{any_member}
 use Rattle.uvm_tlm.proofs.Targets.{in_order}

@@ -1,9 +1,5 @@
 -- What connections lead to.
-use Rattle.std.proofs.Common.{◌≡◌, ◌⊎◌, ℕ, Bool, true, ◌&&◌, eqb, List, [], ◌∷◌, All, inl, inr, ap, ◌∙◌}
-use Rattle.std.proofs.lemmas.Bool.{and_from, and_parts, eqb-true, or_cases, or_left, or_right}
-use Rattle.std.proofs.lemmas.List.Elements.{All-nil, All-cons, All-head, All-tail, All-weaker}
-use Rattle.uvm_tlm.specs.declared.wirings.Connection.{Connection}
-use Rattle.uvm_tlm.specs.Wirings.{leads}
+use Rattle.uvm_tlm.proofs.Common.{◌≡◌, ◌⊎◌, ℕ, Bool, true, ◌&&◌, eqb, List, [], ◌∷◌, All, inl, inr, ap, ◌∙◌, and_from, and_parts, eqb-true, or_cases, or_left, or_right, All-nil, All-cons, All-head, All-tail, All-weaker, Connection, leads}
 use Rattle.uvm_tlm.proofs.Lists.{eqb-same}
 
 pub leads_itself : (connections : List Connection) (n : ℕ) → leads connections n n ≡ true

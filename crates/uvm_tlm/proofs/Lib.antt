@@ -1,12 +1,13 @@
-pub mod Lists
+pub mod Agreeing
+mod Common
+pub mod Drivers
 pub mod Leads
-pub mod Reached
-pub mod Sources
+pub mod Listed
+pub mod Lists
 pub mod Noted
+pub mod Reached
 pub mod Routes
 pub mod Sets
-pub mod Listed
-pub mod Wired
+pub mod Sources
 pub mod Targets
-pub mod Drivers
-pub mod Agreeing
+pub mod Wired

@@ -1,14 +1,6 @@
 -- The connections among nodes as a list.
-use Rattle.std.proofs.Common.{◌≡◌, ◌⊎◌, ℕ, Bool, true, false, cond, ◌&&◌, ◌||◌, eqb, List, [], ◌∷◌, ◌++◌, map, filter, find, All, Some, is_some, refl, sym, ap, ◌∙◌, inl, inr}
-use Rattle.std.specs.List.{flat_map}
-use Rattle.std.proofs.lemmas.Bool.{and_from, and_parts, eqb-true, false≢true, true≢false, or_cases, or_left, or_right}
-use Rattle.std.proofs.lemmas.List.Elements.{All-append, All-map, All-nil, All-weaker, filter_passes}
-use Rattle.std.proofs.lemmas.List.Folds.{list_any-append}
-use Rattle.uvm_tlm.specs.declared.ends.End.{End}
-use Rattle.uvm_tlm.specs.declared.wirings.Connection.{Connection}
-use Rattle.uvm_tlm.specs.Graphs.{has}
-use Rattle.uvm_tlm.specs.Laws.{Route, over, along}
-use Rattle.uvm_tlm.specs.Wirings.{connection, connections_among, connections_from, driven_by, driver_in, end_at, is_connected, is_some_of, is_target_at, kind_at, reaches, targets_in}
+use Rattle.uvm_tlm.proofs.Common.{◌≡◌, ◌⊎◌, ℕ, Bool, true, false, cond, ◌&&◌, ◌||◌, eqb, List, [], ◌∷◌, ◌++◌, map, filter, find, All, Some, is_some, refl, sym, ap, ◌∙◌, inl, inr, flat_map, and_from, and_parts, eqb-true, false≢true, true≢false, or_cases, or_left, or_right, All-append, All-map, All-nil, All-weaker, filter_passes, list_any-append, End, Connection, has, Route, over, along, connection, connections_among, connections_from, driven_by, driver_in, end_at, is_some_of, is_target_at, kind_at, reaches, targets_in}
+use Rattle.uvm_tlm.specs.Wirings.{is_connected}
 use Rattle.uvm_tlm.proofs.Lists.{eqb-same, same_answer}
 use Rattle.uvm_tlm.proofs.Reached.{reaches_connected, reaches_through}
 use Rattle.uvm_tlm.proofs.Routes.{connected, route_of}

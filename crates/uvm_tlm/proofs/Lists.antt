@@ -1,14 +1,5 @@
 -- Lists of nodes, and tests of their elements.
-use Rattle.std.proofs.Common.{◌≡◌, ◌≤◌, ℕ, Bool, true, false, cond, eqb, ◌||◌, nat_eq, List, [], ◌∷◌, ◌++◌, length, take, All, Option, Some, if◌then◌else◌, refl, sym, ap, ◌∙◌, inl, inr, arith}
-use Rattle.std.specs.List.{list_any}
-use Rattle.std.specs.Option.{option_map_or}
-use Rattle.std.proofs.lemmas.Bool.{eqb-true, eq-eqb, false≢true, or_cases, or_left, or_right}
-use Rattle.std.proofs.lemmas.Bool.Decides.{nat_tests}
-use Rattle.std.proofs.lemmas.List.{take-append-le, length_push}
-use Rattle.std.proofs.lemmas.List.Elements.{All-head, All-tail}
-use Rattle.std.proofs.lemmas.List.Folds.{list_any-append}
-use Rattle.indexmap.specs.IndexSet.{insert_key, insert_all}
-use Rattle.uvm_tlm.specs.Graphs.{has}
+use Rattle.uvm_tlm.proofs.Common.{◌≡◌, ◌≤◌, ℕ, Bool, true, false, cond, eqb, ◌||◌, nat_eq, List, [], ◌∷◌, ◌++◌, length, take, All, Option, Some, if◌then◌else◌, refl, sym, ap, ◌∙◌, inl, inr, arith, list_any, option_map_or, eqb-true, eq-eqb, false≢true, or_cases, or_left, or_right, nat_tests, take-append-le, length_push, All-head, All-tail, list_any-append, insert_key, insert_all, has}
 
 pub eqb-flip : (m n : ℕ) → eqb m n ≡ eqb n m
 eqb-flip m n = grind (arith, nat_tests)

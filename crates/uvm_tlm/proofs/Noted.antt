@@ -1,17 +1,5 @@
 -- What a loop over connections, nodes, ports or targets has noted, one step further.
-use Rattle.std.proofs.Common.{◌≡◌, ◌+◌, ◌<◌, ℕ, Bool, true, false, ◌||◌, ◌&&◌, not, eqb, nat_eq, List, [], ◌∷◌, ◌++◌, length, get_or, take, find, Option, Some, None, is_some, if◌then◌else◌, refl, sym, ap, ◌∙◌, arith}
-use Rattle.std.specs.List.{IsDistinct}
-use Rattle.std.specs.Option.{option_or}
-use Rattle.std.proofs.lemmas.Bool.{eqb-true, false≢true}
-use Rattle.std.proofs.lemmas.List.{append-nil, take_more, get_or-take, length-take-le, get_or_default}
-use Rattle.std.proofs.lemmas.List.Elements.{filter_more}
-use Rattle.std.proofs.lemmas.List.Folds.{find-append, list_any-append, list_any_more, list_any_none}
-use Rattle.std.proofs.lemmas.Map.Keys.{apart_from_distinct}
-use Rattle.indexmap.specs.IndexSet.{insert_key}
-use Rattle.uvm_tlm.specs.declared.ends.End.{End}
-use Rattle.uvm_tlm.specs.declared.wirings.Connection.{Connection}
-use Rattle.uvm_tlm.specs.Graphs.{has, is_connected}
-use Rattle.uvm_tlm.specs.Wirings.{is_some_of, is_target_at, reaches, targets_in}
+use Rattle.uvm_tlm.proofs.Common.{◌≡◌, ◌+◌, ◌<◌, ℕ, Bool, true, false, ◌||◌, ◌&&◌, not, eqb, nat_eq, List, [], ◌∷◌, ◌++◌, length, get_or, take, find, Option, Some, None, is_some, if◌then◌else◌, refl, sym, ap, ◌∙◌, arith, IsDistinct, option_or, eqb-true, false≢true, append-nil, take_more, get_or-take, length-take-le, get_or_default, filter_more, find-append, list_any-append, list_any_more, list_any_none, apart_from_distinct, insert_key, End, Connection, has, is_some_of, is_target_at, reaches, targets_in, is_connected}
 use Rattle.uvm_tlm.proofs.Lists.{eqb-flip, has_push, or-false}
 
 and-true : (b : Bool) → (b && true) ≡ b

@@ -1,11 +1,5 @@
 -- What connections reach.
-use Rattle.std.proofs.Common.{◌≡◌, ℕ, Bool, true, ◌&&◌, ◌||◌, eqb, List, All, sym, ap, ◌∙◌}
-use Rattle.std.specs.List.{list_any}
-use Rattle.std.proofs.lemmas.Bool.{and_from, and_parts, eqb-true, or_left, or_right}
-use Rattle.std.proofs.lemmas.List.Elements.{All-weaker}
-use Rattle.uvm_tlm.specs.declared.wirings.Connection.{Connection}
-use Rattle.uvm_tlm.specs.Graphs.{is_connected}
-use Rattle.uvm_tlm.specs.Wirings.{leads, reaches}
+use Rattle.uvm_tlm.proofs.Common.{◌≡◌, ℕ, Bool, true, ◌&&◌, ◌||◌, eqb, List, All, sym, ap, ◌∙◌, list_any, and_from, and_parts, eqb-true, or_left, or_right, All-weaker, Connection, leads, reaches, is_connected}
 use Rattle.uvm_tlm.proofs.Leads.{is_closed_at, leads_along, leads_closed, leads_itself, leads-leads}
 use Rattle.uvm_tlm.proofs.Lists.{any_follows, any_weaker}
 

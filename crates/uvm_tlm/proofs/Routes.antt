@@ -1,13 +1,5 @@
 -- Routes, and the test that finds them.
-use Rattle.std.proofs.Common.{◌≡◌, ℕ, Bool, true, ◌&&◌, eqb, List, [], ◌∷◌, Contains, ◌⊎◌, inl, inr, sym, ap, subst, ◌∙◌}
-use Rattle.std.specs.List.{list_any}
-use Rattle.std.proofs.lemmas.Bool.{and_from, and_parts, eqb-true, false≢true, or_cases}
-use Rattle.std.proofs.lemmas.List.Elements.{Contains-append_left, Contains-append_right, Contains-push}
-use Rattle.std.proofs.lemmas.List.Folds.{list_any_at}
-use Rattle.uvm_tlm.specs.declared.wirings.Connection.{Connection}
-use Rattle.uvm_tlm.specs.Laws.{Route, over, along}
-use Rattle.uvm_tlm.specs.Graphs.{is_connected}
-use Rattle.uvm_tlm.specs.Wirings.{leads, reaches}
+use Rattle.uvm_tlm.proofs.Common.{◌≡◌, ℕ, Bool, true, ◌&&◌, eqb, List, [], ◌∷◌, Contains, ◌⊎◌, inl, inr, sym, ap, subst, ◌∙◌, list_any, and_from, and_parts, eqb-true, false≢true, or_cases, Contains-append_left, Contains-append_right, Contains-push, list_any_at, Connection, Route, over, along, leads, reaches, is_connected}
 use Rattle.uvm_tlm.proofs.Leads.{ways}
 use Rattle.uvm_tlm.proofs.Lists.{eqb-same}
 use Rattle.uvm_tlm.proofs.Reached.{reaches_connected, reaches_through}

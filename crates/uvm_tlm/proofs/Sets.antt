@@ -1,9 +1,5 @@
 -- The set of some nodes.
-use Rattle.std.proofs.Common.{◌≡◌, ◌||◌, ◌∙◌, ℕ, Bool, true, false, nat_eq, List, [], ◌∷◌, ◌++◌, refl, ap, sym, arith, append_assoc}
-use Rattle.std.proofs.lemmas.Bool.Decides.{nat_tests}
-use Rattle.std.proofs.lemmas.List.{append-nil}
-use Rattle.std.specs.List.{AllByRecursion, IsDistinct, list_any}
-use Rattle.indexmap.specs.IndexSet.{insert_all, insert_key}
+use Rattle.uvm_tlm.proofs.Common.{◌≡◌, ◌||◌, ◌∙◌, ℕ, Bool, true, false, nat_eq, List, [], ◌∷◌, ◌++◌, refl, ap, sym, arith, append_assoc, nat_tests, append-nil, AllByRecursion, IsDistinct, list_any, insert_all, insert_key}
 
 -- a node is none of some, nor one that differs from it
 one-more : (nodes : List ℕ) (x y : ℕ) → list_any (nat_eq y) nodes ≡ false → nat_eq x y ≡ false → list_any (nat_eq y) (nodes ++ x ∷ []) ≡ false

@@ -1,17 +1,5 @@
 -- The search for what reaches a target.
-use Rattle.std.proofs.Common.{◌≡◌, ◌+◌, ◌<◌, ◌≤◌, ℕ, Bool, true, false, ◌||◌, ◌&&◌, cond, eqb, nat_eq, List, [], ◌∷◌, ◌++◌, length, get_or, take, map, Some, sym, ap, ◌∙◌, inl, inr, arith, rules}
-use Rattle.std.specs.List.{list_any, IsDistinct}
-use Rattle.std.specs.Map.{lookup}
-use Rattle.std.specs.Option.{IsSome}
-use Rattle.std.specs.Cmp.{nat_eq_equiv}
-use Rattle.std.proofs.lemmas.Bool.{and_from, eqb-true, false≢true, or_cases, or_left, or_right}
-use Rattle.std.proofs.lemmas.List.{take_all, take_more, length-map}
-use Rattle.std.proofs.lemmas.List.Folds.{list_any_at}
-use Rattle.std.proofs.lemmas.Map.Steps.{length-le_from_keys}
-use Rattle.indexmap.specs.IndexSet.{insert_all}
-use Rattle.uvm_tlm.specs.declared.wirings.Connection.{Connection}
-use Rattle.uvm_tlm.specs.Graphs.{has, is_connected}
-use Rattle.uvm_tlm.specs.Wirings.{reaches}
+use Rattle.uvm_tlm.proofs.Common.{◌≡◌, ◌+◌, ◌<◌, ◌≤◌, ℕ, Bool, true, false, ◌||◌, ◌&&◌, cond, eqb, nat_eq, List, [], ◌∷◌, ◌++◌, length, get_or, take, map, Some, sym, ap, ◌∙◌, inl, inr, arith, rules, list_any, IsDistinct, lookup, IsSome, nat_eq_equiv, and_from, eqb-true, false≢true, or_cases, or_left, or_right, take_all, take_more, length-map, list_any_at, length-le_from_keys, insert_all, Connection, has, reaches, is_connected}
 use Rattle.uvm_tlm.proofs.Lists.{eqb-same, has_push, has-insert_all, longer-insert_all, or-assoc, same_answer}
 use Rattle.uvm_tlm.proofs.Reached.{reaches_connected, reaches_through, reaches_starts, reached_all}
 

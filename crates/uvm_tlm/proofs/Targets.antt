@@ -1,17 +1,5 @@
 -- The targets of a node, and the routes to them.
-use Rattle.std.proofs.Common.{◌≡◌, ℕ, Bool, true, false, cond, ◌&&◌, eqb, nat_eq, List, [], ◌∷◌, All, Contains, Option, Some, None, is_some, filter, refl, sym, ap, subst, ◌∙◌}
-use Rattle.std.specs.Bool.{IsTrue}
-use Rattle.std.specs.List.{AllByRecursion, IsDistinct}
-use Rattle.std.specs.Option.{option_map_or}
-use Rattle.std.proofs.lemmas.Bool.{and_from, and_parts, eqb-true, false≢true}
-use Rattle.std.proofs.lemmas.List.Elements.{All-contains, All-head, All-tail, filter_passes}
-use Rattle.std.proofs.lemmas.Map.Views.{any-filter_same}
-use Rattle.indexmap.proofs.CallerLemmas.{Contains-list_any}
-use Rattle.uvm_tlm.specs.declared.ends.End.{End}
-use Rattle.uvm_tlm.specs.Ends.{is_target}
-use Rattle.uvm_tlm.specs.Laws.{AreTargets}
-use Rattle.uvm_tlm.specs.Graphs.{has}
-use Rattle.uvm_tlm.specs.Wirings.{WiringValue, IsWiring, IsPathOrder, end_at, is_closed, is_target_at, reaches, targets_in, targets_of}
+use Rattle.uvm_tlm.proofs.Common.{◌≡◌, ℕ, Bool, true, false, cond, ◌&&◌, eqb, nat_eq, List, [], ◌∷◌, All, Contains, Option, Some, None, is_some, filter, refl, sym, ap, subst, ◌∙◌, IsTrue, AllByRecursion, IsDistinct, option_map_or, and_from, and_parts, eqb-true, false≢true, All-contains, All-head, All-tail, filter_passes, any-filter_same, Contains-list_any, End, is_target, AreTargets, has, WiringValue, IsWiring, IsPathOrder, end_at, is_closed, is_target_at, reaches, targets_in, targets_of}
 use Rattle.uvm_tlm.proofs.Lists.{eqb-same}
 use Rattle.uvm_tlm.proofs.Routes.{any_member, found, route_of}
 

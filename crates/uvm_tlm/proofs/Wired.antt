@@ -1,22 +1,7 @@
 -- What each call keeps of a wiring.
-use Rattle.std.proofs.Common.{◌≡◌, ℕ, Bool, true, false, ◌&&◌, ◌||◌, cond, eqb, inl, inr, nat_eq, not, List, [], ◌∷◌, ◌++◌, map, reverse, Option, Some, None, is_some, option_map, refl, sym, ap, subst, ◌∙◌}
+use Rattle.uvm_tlm.proofs.Common.{◌≡◌, ℕ, Bool, true, false, ◌&&◌, ◌||◌, cond, eqb, inl, inr, nat_eq, not, List, [], ◌∷◌, ◌++◌, map, reverse, Option, Some, None, is_some, option_map, refl, sym, ap, subst, ◌∙◌, AllByRecursion, ForSome, and_parts, eqb-true, false≢true, or_cases, or_right, reverse-append, All-weaker, IsDistinct-cons, none-some, same_Some, fault_if, first_given, End, KindDiffers, Late, Unknown, Connection, Inside, has, connections_of, nodes_of, value_of, WiringValue, IsWiring, IsPathOrder, end_at, connections_among, is_closed, are_known, connect_fault, may_connect, with_end, with_connection}
 use Rattle.std.specs.HashMap.{keys as keys_in}
-use Rattle.std.specs.List.{AllByRecursion}
-use Rattle.std.specs.Option.{ForSome}
-use Rattle.std.proofs.lemmas.Bool.{and_parts, eqb-true, false≢true, or_cases, or_right}
-use Rattle.std.proofs.lemmas.List.{reverse-append}
-use Rattle.std.proofs.lemmas.List.Elements.{All-weaker}
-use Rattle.std.proofs.lemmas.Map.Keys.{IsDistinct-cons}
-use Rattle.std.proofs.lemmas.Option.{none-some, same_Some}
-use Rattle.uvm_glob.specs.Faults.{fault_if}
-use Rattle.uvm_glob.specs.Lists.{first_given}
-use Rattle.uvm_tlm.specs.declared.ends.End.{End}
-use Rattle.uvm_tlm.specs.declared.faults.WireFault.TheVariants.{KindDiffers, Late, Unknown}
-use Rattle.uvm_tlm.specs.declared.wirings.Connection.{Connection}
-use Rattle.uvm_tlm.specs.declared.wirings.Wiring.TheInside.{Inside}
-use Rattle.uvm_tlm.specs.Graphs.{has}
-use Rattle.uvm_tlm.specs.Kept.{connections_of, nodes_of, value_of}
-use Rattle.uvm_tlm.specs.Wirings.{WiringValue, IsWiring, IsPathOrder, end_at, connections_among, is_closed, is_connected, are_known, connect_fault, may_connect, with_end, with_connection}
+use Rattle.uvm_tlm.specs.Wirings.{is_connected}
 use Rattle.uvm_tlm.proofs.Listed.{AreBetween, added-there, all-among, among-more, among-same, listed}
 use Rattle.uvm_tlm.proofs.Lists.{any_follows, same_answer}
 

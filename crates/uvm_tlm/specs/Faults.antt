@@ -1,4 +1,4 @@
--- What is told of each fault.
+-- The texts of the errors, and whether an error rejects a call.
 use Rattle.std.specs.Prelude.{ℕ, List, Option, Some, None, codes}
 use Rattle.uvm_tlm.specs.declared.faults.WireFault.{WireFault}
 use Rattle.uvm_tlm.specs.declared.faults.WireFault.TheVariants.{KindDiffers, TooFew, TooMany, Unknown, Late, Memory}
@@ -12,7 +12,7 @@ fault_text Unknown = codes "unknown node"
 fault_text Late = codes "connected too late"
 fault_text Memory = codes "out of memory"
 
--- what a fault says of a call: `Memory` says that nothing is wrong with it
+-- the error that rejects a call; none for `Memory`, which says nothing about the call
 abbrev pub refusal : WireFault → Option WireFault
 refusal KindDiffers = Some KindDiffers
 refusal TooFew = Some TooFew

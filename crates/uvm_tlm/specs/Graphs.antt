@@ -5,11 +5,11 @@ use Rattle.uvm_tlm.specs.declared.ends.End.{End}
 use Rattle.uvm_tlm.specs.declared.wirings.Connection.{Connection}
 pub use Rattle.uvm_tlm.specs.Wirings.{is_connected}
 
--- the nodes with what stands there, and the connections
+-- the nodes with their ends, and the connections
 pub record GraphValue : Type 0 where
   pub ends : List (ℕ × End)
   pub connections : List Connection
 
--- whether a node is among some
+-- whether a node is in a list of nodes
 abbrev pub has : List ℕ → ℕ → Bool
 has nodes node = list_any (nat_eq node) nodes

@@ -3,8 +3,8 @@ pub mod Faults
 pub mod Fifos
 pub mod Laws
 pub mod Wirings
--- what the bodies go by, and no caller cites
+-- internal definitions, which the function bodies use and no caller needs
 pub mod Graphs
 pub mod Indexed
-pub mod Kept
+pub mod Representation
 pub mod NodeLists

@@ -1,38 +1,38 @@
-//! What is connected.
+//! The kinds of ports and exports, and the ends that a connection joins.
 
 ghost use Rattle.std.specs.Prelude.{◌≡◌};
 ghost use Rattle.uvm_tlm.specs.Ends.{accepts, agrees, is_port, is_target, port_kind};
 
-/// What a port or an export passes on (IEEE 1800.2-2020, 12.2).
+/// The kind of a port or an export: what passes through it (IEEE 1800.2-2020, 12.2).
 #[derive(Clone, Copy, PartialEq, Eq)]
 pub enum PortKind {
-    /// Items that are put into a FIFO.
+    /// Items that the port puts into a FIFO.
     Put,
-    /// Items that are taken from a FIFO, or looked at there.
+    /// Items that the port takes from a FIFO or peeks at there.
     Get,
-    /// Items that are written to every target.
+    /// Items that the port writes to each of its targets.
     Analysis,
-    /// The items of the sequences of a sequencer.
+    /// Items that the sequences of a sequencer send.
     Seq,
 }
 
-/// What stands at an end of a connection.
+/// An end of a connection: what was added to the wiring at a node.
 #[derive(Clone, Copy, PartialEq, Eq)]
 pub enum End {
-    /// A port, which asks what it is connected to.
+    /// A port of this kind, which sends its requests to what it is connected to.
     Port(PortKind),
-    /// An export, which passes on what is asked of it.
+    /// An export of this kind, which passes requests on to what it is connected to.
     Export(PortKind),
-    /// An analysis imp, at which what is written arrives.
+    /// An analysis imp, which receives the items that are written to it.
     Imp,
-    /// A FIFO of a size; of size 0 it is unbounded.
+    /// A FIFO that holds up to this many items; 0 for an unbounded FIFO.
     Fifo(u16),
     /// A sequencer.
     Sequencer,
 }
 
 impl End {
-    // Whether a connection of a kind may end here.
+    // Returns whether a connection of this kind may end here.
     fn accepts(self, kind: PortKind) -> bool
         ensures { result ≡ accepts self kind }
     {
@@ -48,7 +48,7 @@ impl End {
         }
     }
 
-    // Whether a connection may go from here to another end.
+    // Returns whether a connection may go from this end to another.
     pub(crate) fn agrees(self, to: End) -> bool
         ensures { result ≡ agrees self to }
     {
@@ -65,14 +65,14 @@ impl End {
         matches!(self, End::Port(_))
     }
 
-    // Whether routes end here.
+    // Returns whether this end is a target: an imp, a FIFO or a sequencer.
     pub(crate) fn is_target(self) -> bool
         ensures { result ≡ is_target self }
     {
         matches!(self, End::Imp | End::Fifo(_) | End::Sequencer)
     }
 
-    // The kind of a port.
+    // Returns the kind of a port; `None` for any other end.
     pub(crate) fn port_kind(self) -> Option<PortKind>
         ensures { result ≡ port_kind self }
     {

@@ -1,23 +1,23 @@
-//! What is wrong with a connection or a port.
+//! Errors of connections and ports.
 
 use std::alloc::{AllocError, AllocFailed};
 use std::error::Error;
 use std::fmt;
 
-/// What is wrong with a connection or a port.
+/// An error of a connection or a port.
 #[derive(Clone, Copy, Debug, PartialEq, Eq)]
 pub enum WireFault {
-    /// The kinds of the two ends differ, or no connection goes from the one to the other.
+    /// The kinds of the two ends differ, or no connection may go from the first to the second.
     KindDiffers,
     /// The port reaches no target.
     TooFew,
-    /// The port reaches several targets, or an earlier port drives the sequencer that it reaches.
+    /// The port reaches several targets, or an earlier port in path order drives the sequencer that it reaches.
     TooMany,
-    /// Nothing that can be connected stands at the node.
+    /// Nothing that can be connected was added at the node.
     Unknown,
     /// The wiring is closed.
     Late,
-    /// Memory was refused.
+    /// An allocation failed.
     Memory,
 }
 

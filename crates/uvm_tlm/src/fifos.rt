@@ -1,4 +1,4 @@
-//! A FIFO, and who waits at it.
+//! FIFOs, and the puts, takes and peeks that wait at them.
 
 ghost use Rattle.std.specs.Prelude.{◌≡◌, ◌==◌, ◌≤◌, ◌++◌, [], true, None, not, filter, length, slice_get, IsTrue, ◌↔◌, OnOk, OnErr, IfOk, if◌then◌else◌};
 ghost use Rattle.std.specs.VecDeque.{deque_len};
@@ -10,70 +10,70 @@ use std::collections::VecDeque;
 use std::marker::Model;
 use uvm_tree::NodeId;
 
-/// Who waits.
+/// The port through which a put, take or peek was requested, and the phase of the request.
 #[derive(Clone, Copy, PartialEq, Eq)]
 pub struct Owner {
-    /// The node of the port that was asked through.
+    /// The node of the port.
     pub node: NodeId,
-    /// The number of the phase in which it was asked.
+    /// The number of the phase.
     pub phase: u8,
 }
 
-/// What a move does.
+/// The kind of a move.
 #[derive(Clone, Copy, PartialEq, Eq)]
 pub enum MoveKind {
-    /// An item goes in.
+    /// The completion of a put: its item enters the FIFO.
     Put,
-    /// An item goes out.
+    /// The completion of a take: it removes the first item.
     Take,
-    /// An item is shown, and stays.
+    /// The completion of a peek: it reads the first item, which stays in the FIFO.
     Peek,
 }
 
-/// A move, which ends the wait of a put, a take or a peek.
+/// A move of a FIFO: the completion of one waiting put, take or peek, whose wait then ends.
 #[derive(Clone, Copy, PartialEq, Eq)]
 pub struct Move {
-    /// What it does.
+    /// The kind of the move.
     pub kind: MoveKind,
-    /// Who waited.
+    /// The port that waited, and the phase of its request.
     pub owner: Owner,
-    /// The item that was moved or shown.
+    /// The item that is put, taken or read.
     pub item: Item,
 }
 
-/// A put that waits for room.
+/// A put that waits until the FIFO is not full.
 #[derive(Clone, Copy, PartialEq, Eq)]
 pub struct WaitingPut {
-    /// Who waits.
+    /// The port that waits, and the phase of its request.
     pub owner: Owner,
-    /// What it puts.
+    /// The item to put.
     pub item: Item,
 }
 
 /// A take or a peek that waits for an item.
 #[derive(Clone, Copy, PartialEq, Eq)]
 pub struct WaitingTake {
-    /// Who waits.
+    /// The port that waits, and the phase of its request.
     pub owner: Owner,
-    /// Whether the item stays.
+    /// Whether this is a peek, which leaves the item in the FIFO.
     pub peeks: bool,
 }
 
-/// A FIFO (IEEE 1800.2-2020, 12.2.8): the items in it, and the puts, takes and peeks that wait, each in their order. A put, take
-/// or peek waits until `settle` makes its move; at each call of it one wait ends at most. But for `clear_waiting`, and where a
-/// call moves what is there to find room, the time of a call does not grow with what is there.
+/// A FIFO (IEEE 1800.2-2020, 12.2.8): its items, and the puts, takes and peeks that wait, each list in order of arrival. A put,
+/// take or peek waits until `settle` makes its move. Each call of `settle` ends at most one wait.
 ///
-/// Contracts see the size, the items, and what waits.
+/// In contracts, the value is the size, the items, the waiting puts, and the waiting takes and peeks. Cost: each call takes
+/// constant time, except `clear_waiting`, and except a call that moves the stored elements to a larger allocation.
 pub struct Fifo {
-    // 0 where there is no limit.
+    // The maximum number of items; 0 if there is no limit.
     size: u16,
     items: VecDeque<Item>,
-    // There is room for their items.
+    // The capacity of `items` is large enough for the items of these puts too.
     puts: VecDeque<WaitingPut>,
     takes: VecDeque<WaitingTake>,
 }
 
-// (By hand, so that crates above prove no drop of what it holds.)
+// (Written by hand, so that crates that use a FIFO need no proof about the drop of its fields.)
 impl Drop for Fifo {
     fn drop(self) {
         let Fifo {
@@ -98,7 +98,7 @@ impl Model for Fifo {
 }
 
 impl Fifo {
-    /// An empty FIFO that holds up to a number of items, or any number where it is 0. Takes no memory.
+    /// Creates an empty FIFO that holds up to `size` items, or any number if `size` is 0. Allocates no memory.
     pub fn new(alloc: Global, size: u16) -> Fifo
         ensures { result ≡ new_fifo size }
     {
@@ -110,8 +110,8 @@ impl Fifo {
         }
     }
 
-    /// Puts an item once there is room (the standard's `put`): it waits behind the other puts. The room that its move needs is
-    /// taken now. Errors: out of memory, which changes nothing.
+    /// Adds a waiting put after the other waiting puts (the standard's `put`). `settle` completes it when the FIFO is not full.
+    /// Reserves the capacity that its move needs. Errors: out of memory. An error changes nothing.
     pub fn put(&mut self, owner: Owner, item: Item) -> Result<(), AllocError>
         ensures ok { OnOk result (self.new ≡ with_put owner item self.old) }
         ensures err { OnErr result (self.new ≡ self.old) }
@@ -121,8 +121,8 @@ impl Fifo {
         Ok(())
     }
 
-    /// Puts an item at once where there is room and no put waits, and answers whether it did (the standard's `try_put`). Its
-    /// error is out of memory where it would have, which changes nothing.
+    /// Puts an item immediately if the FIFO is not full and no put waits (the standard's `try_put`). Returns whether it put the
+    /// item. Errors: out of memory, only if the item could be put. An error changes nothing.
     #[tactic(auto, unfolding(crate::specs::Fifos::can_put))]
     pub fn try_put(&mut self, item: Item) -> Result<bool, AllocError>
         ensures ok { IfOk result (λ stored. stored ≡ can_put self.old) }
@@ -137,8 +137,8 @@ impl Fifo {
         Ok(true)
     }
 
-    /// Takes an item once one is there (the standard's `get`): it waits behind the other takes and peeks. Its error is want of
-    /// memory, which changes nothing.
+    /// Adds a waiting take after the other waiting takes and peeks (the standard's `get`). `settle` completes it when there is an
+    /// item. Errors: out of memory. An error changes nothing.
     pub fn take(&mut self, owner: Owner) -> Result<(), AllocError>
         ensures ok { OnOk result (self.new ≡ with_take owner self.old) }
         ensures err { OnErr result (self.new ≡ self.old) }
@@ -150,8 +150,8 @@ impl Fifo {
         Ok(())
     }
 
-    /// Takes the first item at once where one is there and no take or peek waits, and else none (the standard's `try_get`).
-    /// Takes no memory.
+    /// Removes and returns the first item if there is one and no take or peek waits; otherwise returns `None` (the standard's
+    /// `try_get`). Allocates no memory.
     #[tactic(auto, unfolding(crate::specs::Fifos::can_take))]
     pub fn try_take(&mut self) -> Option<Item>
         ensures item { result ≡ (if can_take self.old then slice_get self.old.items 0 else None) }
@@ -163,8 +163,8 @@ impl Fifo {
         self.items.pop_front()
     }
 
-    /// Looks at an item once one is there, which stays (the standard's `peek`): it waits behind the other takes and peeks. Its
-    /// error is out of memory, which changes nothing.
+    /// Adds a waiting peek after the other waiting takes and peeks (the standard's `peek`). `settle` completes it when there is
+    /// an item, which stays in the FIFO. Errors: out of memory. An error changes nothing.
     pub fn peek(&mut self, owner: Owner) -> Result<(), AllocError>
         ensures ok { OnOk result (self.new ≡ with_peek owner self.old) }
         ensures err { OnErr result (self.new ≡ self.old) }
@@ -173,8 +173,8 @@ impl Fifo {
         Ok(())
     }
 
-    /// Makes the move that comes next, and none where there is none: the first take or peek that waits gets the first item, if
-    /// one is there, and else the first put that waits goes in, if there is room. Takes no memory.
+    /// Makes the next move and returns it, or returns `None` if there is none. The first waiting take or peek gets the first
+    /// item, if there is an item. Otherwise the first waiting put stores its item, if the FIFO is not full. Allocates no memory.
     #[tactic(auto, unfolding(crate::specs::Fifos::next_move))]
     pub fn settle(&mut self) -> Option<Move>
         ensures value { result ≡ next_move self.old }
@@ -186,7 +186,7 @@ impl Fifo {
         }
     }
 
-    /// The move that comes next, which `settle` makes, and none where there is none. Takes no memory.
+    /// Returns the next move, which `settle` makes; `None` if there is none. Allocates no memory.
     #[tactic(auto, unfolding(crate::specs::Fifos::next_move))]
     pub fn next_move(&self) -> Option<Move>
         ensures { result ≡ next_move self.now }
@@ -197,8 +197,8 @@ impl Fifo {
         }
     }
 
-    /// Ends the waits of the puts, takes and peeks that were asked in the phase of a number. The items stay. Takes no memory;
-    /// the time is that of a look at each wait.
+    /// Removes the waiting puts, takes and peeks that were requested in the phase of this number. The items stay. Allocates no
+    /// memory. Cost: O(n) in the number of waiting puts, takes and peeks.
     pub fn clear_waiting(&mut self, phase: u8)
         ensures { self.new ≡ cleared phase self.old }
     {
@@ -206,14 +206,14 @@ impl Fifo {
         end_takes(&mut self.takes, phase);
     }
 
-    /// How many items are in it.
+    /// Returns the number of items.
     pub fn len(&self) -> usize
         ensures { result ≡ length self.now.items }
     {
         self.items.len()
     }
 
-    /// Whether no item is in it.
+    /// Returns whether there are no items.
     pub fn is_empty(&self) -> bool
         ensures { IsTrue result ↔ (self.now.items ≡ []) }
     {
@@ -227,28 +227,28 @@ impl Fifo {
         self.items.as_slices()
     }
 
-    /// The item at a place, of which 0 is that of the first to go out, and none where there are not so many.
+    /// Returns the item at a place, counted from 0 at the first to go out; `None` if there are not so many items.
     pub fn item(&self, place: usize) -> Option<Item>
         ensures { result ≡ slice_get self.now.items place }
     {
         self.items.get(place).copied()
     }
 
-    /// How many puts, takes and peeks wait.
+    /// Returns the number of puts, takes and peeks that wait.
     pub fn waiting(&self) -> usize
         ensures { result ≡ waiting_count self.now }
     {
         self.puts.len() + self.takes.len()
     }
 
-    // Whether one more item fits.
+    // Returns whether one more item fits.
     fn has_room(&self) -> bool
         ensures { result ≡ has_room self.now }
     {
         self.size == 0 || self.items.len() < usize::from(self.size)
     }
 
-    // The move of the first take or peek that waits.
+    // Returns the move of the first waiting take or peek; `None` if none waits or there is no item.
     fn next_take(&self) -> Option<Move>
         ensures { result ≡ take_move self.now }
     {
@@ -262,7 +262,7 @@ impl Fifo {
         Some(Move { kind, owner, item })
     }
 
-    // The move of the first put that waits.
+    // Returns the move of the first waiting put; `None` if none waits or the FIFO is full.
     fn next_put(&self) -> Option<Move>
         ensures { result ≡ put_move self.now }
     {
@@ -274,7 +274,7 @@ impl Fifo {
         Some(Move { kind, owner, item })
     }
 
-    // Makes the move of the first take or peek that waits.
+    // Makes the move of the first waiting take or peek and returns it; returns `None` if none waits or there is no item.
     fn settle_take(&mut self) -> Option<Move>
         ensures value { result ≡ take_move self.old }
         ensures after { self.new ≡ after_move result self.old }
@@ -287,7 +287,7 @@ impl Fifo {
         Some(taken)
     }
 
-    // Makes the move of the first put that waits.
+    // Makes the move of the first waiting put and returns it; returns `None` if none waits or the FIFO is full.
     fn settle_put(&mut self) -> Option<Move>
         ensures value { result ≡ put_move self.old }
         ensures after { self.new ≡ after_move result self.old }
@@ -301,7 +301,7 @@ impl Fifo {
     }
 }
 
-// Ends the waits of the puts that were asked in a phase.
+// Removes the puts that were requested in a phase.
 fn end_puts(puts: &mut VecDeque<WaitingPut>, phase: u8)
     ensures items { puts.new.items ≡ filter (λ put. not (put.owner.phase == phase)) puts.old.items }
     ensures fewer { deque_len puts.new ≤ deque_len puts.old }
@@ -309,7 +309,7 @@ fn end_puts(puts: &mut VecDeque<WaitingPut>, phase: u8)
     puts.retain(|put| put.owner.phase != phase);
 }
 
-// Ends the waits of the takes and peeks that were asked in a phase.
+// Removes the takes and peeks that were requested in a phase.
 fn end_takes(takes: &mut VecDeque<WaitingTake>, phase: u8)
     ensures { takes.new.items ≡ filter (λ take. not (take.owner.phase == phase)) takes.old.items }
 {

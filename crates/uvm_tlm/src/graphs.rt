@@ -1,4 +1,4 @@
-//! Which nodes reach which targets.
+//! The graph of the connections, and which nodes reach which targets.
 
 ghost use Rattle.std.specs.Prelude.{◌≡◌, ℕ, ◌++◌, ◌∷◌, [], nat_eq, reverse, IfOk, OnOk, if◌then◌else◌};
 ghost use Rattle.std.specs.HashMap.{get};
@@ -18,8 +18,8 @@ use std::collections::HashMap;
 use std::marker::Model;
 use uvm_tree::NodeId;
 
-// The ends and the connections of a wiring, with where the connections to each node start. Contracts see the ends, the newest
-// first, and the connections.
+// The ends and the connections of a wiring, and for each node the nodes from which connections lead to it. In contracts, the
+// value is the ends, newest first, and the connections.
 #[derive(Drop)]
 pub(crate) struct Graph<'a> {
     ends: &'a IndexMap<NodeId, End>,
@@ -40,7 +40,7 @@ impl<'a> Model for Graph<'a> {
 }
 
 impl<'a> Graph<'a> {
-    // The graph of ends and connections.
+    // Creates the graph of ends and connections. Errors: out of memory.
     pub(crate) fn new(
         alloc: Global,
         ends: &'a IndexMap<NodeId, End>,
@@ -57,7 +57,7 @@ impl<'a> Graph<'a> {
         })
     }
 
-    // The targets that each node reaches, in path order.
+    // Returns the targets that each node reaches, in path order. Errors: out of memory.
     pub(crate) fn targets(&self, alloc: Global, order: &[NodeId]) -> Result<NodeLists, AllocError>
         ensures { IfOk result (λ targets. (n : ℕ) → list_of targets n ≡ targets_in self.now.ends self.now.connections order.now n) }
     {
@@ -71,7 +71,7 @@ impl<'a> Graph<'a> {
         Ok(targets)
     }
 
-    // The first port in path order that drives each sequencer.
+    // Returns for each sequencer the first port in path order that drives it. Errors: out of memory.
     pub(crate) fn drivers(
         &self,
         alloc: Global,
@@ -92,7 +92,8 @@ impl<'a> Graph<'a> {
         Ok(drivers)
     }
 
-    // The nodes that reach a target. Each node is found once, and each connection to a found node is looked at once.
+    // Returns the nodes that reach a target. Errors: out of memory. Cost: finds each node once, and follows each connection to a
+    // found node once.
     fn sources(&self, alloc: Global, target: NodeId) -> Result<IndexSet<NodeId>, AllocError>
         ensures { IfOk result (λ found. (n : ℕ) → has found.keys n ≡ reaches self.now.connections n target) }
     {
@@ -107,7 +108,7 @@ impl<'a> Graph<'a> {
         Ok(found)
     }
 
-    // Whether routes end at a node.
+    // Returns whether the node is a target.
     fn is_target(&self, node: NodeId) -> bool
         ensures { result ≡ is_target_at self.now.ends node }
     {
@@ -117,7 +118,7 @@ impl<'a> Graph<'a> {
         }
     }
 
-    // The kind of a port.
+    // Returns the kind of the port at a node; `None` if the node is not a port.
     fn port_kind(&self, node: NodeId) -> Option<PortKind>
         ensures { result ≡ kind_at self.now.ends node }
     {
@@ -127,7 +128,7 @@ impl<'a> Graph<'a> {
         }
     }
 
-    // What stands at a node.
+    // Returns the end at a node; `None` if nothing was added there.
     fn end(&self, node: NodeId) -> Option<End>
         ensures { result ≡ end_at self.now.ends node }
     {
@@ -135,7 +136,7 @@ impl<'a> Graph<'a> {
     }
 }
 
-// Returns for each node where the connections to it start, each start once.
+// Returns for each node the nodes from which connections lead to it, each once. Errors: out of memory.
 fn starts(alloc: Global, connections: &[Connection]) -> Result<NodeLists, AllocError>
     ensures { IfOk result (λ starts. (from to : ℕ) → has (list_of starts to) from ≡ is_connected connections.now from to) }
 {
@@ -149,7 +150,7 @@ fn starts(alloc: Global, connections: &[Connection]) -> Result<NodeLists, AllocE
     Ok(starts)
 }
 
-// The places of some nodes, in their order.
+// Returns an index map of the nodes in their order, which gives the place of each. Errors: out of memory.
 pub(crate) fn places_of(alloc: Global, nodes: &[NodeId]) -> Result<IndexMap<NodeId, ()>, AllocError>
     requires { IsDistinct nat_eq nodes.now }
     ensures { IfOk result (λ places. keys places ≡ nodes.now) }
@@ -161,7 +162,7 @@ pub(crate) fn places_of(alloc: Global, nodes: &[NodeId]) -> Result<IndexMap<Node
     Ok(places)
 }
 
-// Puts some nodes behind the others of a set, each once.
+// Adds nodes at the end of a set, except those that it already has. Errors: out of memory.
 fn insert_all(set: &mut IndexSet<NodeId>, nodes: &[NodeId]) -> Result<(), AllocError>
     ensures { OnOk result (set.new.keys ≡ insert_all nat_eq set.old.keys nodes.now) }
 {
@@ -171,7 +172,7 @@ fn insert_all(set: &mut IndexSet<NodeId>, nodes: &[NodeId]) -> Result<(), AllocE
     Ok(())
 }
 
-// Puts an element behind the others of the list of each of some nodes.
+// Adds an element at the end of the list of each of the nodes. Errors: out of memory.
 fn push_to_all(
     lists: &mut NodeLists,
     nodes: &IndexSet<NodeId>,
@@ -185,7 +186,7 @@ fn push_to_all(
     Ok(())
 }
 
-// The sequencer that a port of a kind drives, which reaches these targets.
+// Returns the sequencer that a port of this kind with these targets drives: the only target of a seq port.
 fn driven_by(kind: Option<PortKind>, targets: &[NodeId]) -> Option<NodeId>
     ensures { result ≡ driven_by kind targets.now }
 {

@@ -1,4 +1,4 @@
-//! TLM 1 between components (IEEE 1800.2-2020, Clause 12): the FIFOs, and the ports, exports and imps that are connected.
+//! TLM 1 between components (IEEE 1800.2-2020, Clause 12): FIFOs, ports, exports and imps, and the connections between them.
 #![tactic(auto)]
 
 mod ends;

@@ -1,4 +1,4 @@
-//! A list of nodes for each node.
+//! A map from each node to a list of nodes.
 
 ghost use Rattle.std.specs.Prelude.{◌≡◌, ℕ, ◌==◌, ◌++◌, ◌∷◌, [], OnOk, if◌then◌else◌};
 ghost use Rattle.uvm_tlm.specs.NodeLists.{list_of};
@@ -7,7 +7,7 @@ use std::alloc::{AllocError, Global};
 use std::collections::HashMap;
 use uvm_tree::NodeId;
 
-// A list of nodes for each node, which is empty where nothing was put into it.
+// A map from each node to a list of nodes. The list is empty if nothing was added to it.
 #[derive(Drop)]
 pub(crate) struct NodeLists {
     alloc: Global,
@@ -15,7 +15,7 @@ pub(crate) struct NodeLists {
 }
 
 impl NodeLists {
-    // Empty lists.
+    // Creates a map in which each list is empty.
     pub(crate) fn new(alloc: Global) -> NodeLists
         ensures { (n : ℕ) → list_of result n ≡ [] }
     {
@@ -25,7 +25,7 @@ impl NodeLists {
         }
     }
 
-    // The list of a node.
+    // Returns the list of a node.
     pub(crate) fn list(&self, node: NodeId) -> &[NodeId]
         ensures { result.now ≡ list_of self.now node }
     {
@@ -35,7 +35,7 @@ impl NodeLists {
         }
     }
 
-    // Puts an element behind the others of the list of a node.
+    // Adds an element at the end of the list of a node. Errors: out of memory.
     pub(crate) fn push(&mut self, node: NodeId, element: NodeId) -> Result<(), AllocError>
         ensures { OnOk result ((n : ℕ) → list_of self.new n ≡ (if n == node then list_of self.old n ++ element ∷ [] else list_of self.old n)) }
     {

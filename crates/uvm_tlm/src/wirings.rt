@@ -21,26 +21,27 @@ use uvm_tree::NodeId;
 /// A connection (the standard's `connect`).
 #[derive(Clone, Copy, PartialEq, Eq, Hash)]
 pub struct Connection {
-    /// The port or export that asks.
+    /// The port or export from which requests go.
     pub from: NodeId,
-    /// What is asked.
+    /// The end to which they go.
     pub to: NodeId,
 }
 
-/// What stands at the nodes of a testbench and how it is connected (IEEE 1800.2-2020, Clause 12): ports, exports, imps, FIFOs
-/// and sequencers are added, and connected in any order, until the wiring is closed. Then each port has its targets, which are
-/// what it reaches over any number of connections, and perhaps a fault.
+/// The ends at the nodes of a testbench, and the connections between them (IEEE 1800.2-2020, Clause 12). Ports, exports, imps,
+/// FIFOs and sequencers are added, and connected in any order, until the wiring is closed. A closed wiring has the targets of
+/// each port: the imps, FIFOs and sequencers that it reaches over one or more connections. It also has the error of each port
+/// that is misconnected.
 ///
-/// Contracts see what was added, the newest first, which node is connected to which, in the order of the nodes, and the path order
-/// once the wiring is closed.
+/// In contracts, the value is the ends, newest first, and the connections, each once and in the order of the nodes. A closed
+/// wiring also has the path order.
 pub struct Wiring {
     ends: IndexMap<NodeId, End>,
-    // One that is made again stands here again: what is seen of two nodes is whether there is one.
+    // A repeated connection is here again. Contracts see only whether a node is connected to another.
     connections: Vec<Connection>,
     closed: Option<Closed>,
 }
 
-// (By hand, so that crates above prove no drop of what it holds.)
+// (Written by hand, so that crates that use a wiring need no proof about the drop of its fields.)
 impl Drop for Wiring {
     fn drop(self) {
         let Wiring {
@@ -51,19 +52,19 @@ impl Drop for Wiring {
     }
 }
 
-// What is found when the wiring is closed.
+// What `close` computes.
 #[derive(Drop)]
 struct Closed {
-    // Each node with its place. Contracts say by it what was found. (A map to nothing, since a set of the same library would be written
-    // out with each crate that keeps a wiring.)
+    // The nodes in path order, each with its place. Contracts state the targets and the drivers by this order. (It is a map to
+    // nothing: the code of a set of the same library would be generated again in each crate that has a wiring.)
     order: IndexMap<NodeId, ()>,
     targets: NodeLists,
-    // The first port that drives each sequencer.
+    // The first port in path order that drives each sequencer.
     drivers: HashMap<NodeId, NodeId>,
 }
 
 impl Model for Wiring {
-    ghost use Rattle.uvm_tlm.specs.Kept.{IsWired, value_of};
+    ghost use Rattle.uvm_tlm.specs.Representation.{IsWired, value_of};
     ghost use Rattle.uvm_tlm.specs.Wirings.{WiringValue};
 
     ghost Value = { WiringValue };
@@ -74,7 +75,7 @@ impl Model for Wiring {
 }
 
 impl Wiring {
-    /// Nothing. Takes no memory.
+    /// Creates a wiring without ends and connections. Allocates no memory.
     pub fn new(alloc: Global) -> Wiring
         ensures { result ≡ new_wiring }
     {
@@ -85,8 +86,8 @@ impl Wiring {
         }
     }
 
-    /// Adds a port of a kind at a node where nothing was added. `Late` where the wiring is closed; else `Memory` where memory
-    /// is refused. Either adds nothing.
+    /// Adds a port of a kind at a node. Requires that nothing was added at the node. Errors: `Late` if the wiring is closed; out
+    /// of memory (`Memory`). An error changes nothing.
     pub fn port(&mut self, node: NodeId, kind: PortKind) -> Result<(), WireFault>
         requires { end_at self.old.ends node ≡ None }
         ensures ok { OnOk result (late_fault self.old ≡ None) }
@@ -97,7 +98,7 @@ impl Wiring {
         self.add(node, End::Port(kind))
     }
 
-    /// Adds an export of a kind, as `port` adds a port.
+    /// Adds an export of a kind at a node. The requirement and the errors are those of `port`.
     pub fn export(&mut self, node: NodeId, kind: PortKind) -> Result<(), WireFault>
         requires { end_at self.old.ends node ≡ None }
         ensures ok { OnOk result (late_fault self.old ≡ None) }
@@ -108,7 +109,7 @@ impl Wiring {
         self.add(node, End::Export(kind))
     }
 
-    /// Adds an analysis imp, as `port` adds a port.
+    /// Adds an analysis imp at a node. The requirement and the errors are those of `port`.
     pub fn imp(&mut self, node: NodeId) -> Result<(), WireFault>
         requires { end_at self.old.ends node ≡ None }
         ensures ok { OnOk result (late_fault self.old ≡ None) }
@@ -119,7 +120,8 @@ impl Wiring {
         self.add(node, End::Imp)
     }
 
-    /// Adds a FIFO of a size, 0 for an unbounded one, as `port` adds a port.
+    /// Adds a FIFO that holds up to `size` items at a node; 0 for an unbounded FIFO. The requirement and the errors are those of
+    /// `port`.
     pub fn fifo(&mut self, node: NodeId, size: u16) -> Result<(), WireFault>
         requires { end_at self.old.ends node ≡ None }
         ensures ok { OnOk result (late_fault self.old ≡ None) }
@@ -130,7 +132,7 @@ impl Wiring {
         self.add(node, End::Fifo(size))
     }
 
-    /// Adds a sequencer, as `port` adds a port.
+    /// Adds a sequencer at a node. The requirement and the errors are those of `port`.
     pub fn sequencer(&mut self, node: NodeId) -> Result<(), WireFault>
         requires { end_at self.old.ends node ≡ None }
         ensures ok { OnOk result (late_fault self.old ≡ None) }
@@ -141,9 +143,9 @@ impl Wiring {
         self.add(node, End::Sequencer)
     }
 
-    /// Connects a node to another (the standard's `connect`). A repeated connection changes no result, and takes memory again. Errors: `Late`
-    /// if the wiring is closed; `Unknown` if nothing was added at one of the nodes; `KindDiffers` if no connection goes from the one to the
-    /// other; `Memory`. An error connects nothing.
+    /// Connects a node to another (the standard's `connect`). A repeated connection changes no result, but takes memory again.
+    /// Errors: `Late` if the wiring is closed; `Unknown` if nothing was added at one of the nodes; `KindDiffers` if no connection
+    /// may go from the first end to the second; out of memory (`Memory`). An error changes nothing.
     #[tactic(auto, unfolding(crate::specs::Wirings::connect_fault))]
     pub fn connect(&mut self, from: NodeId, to: NodeId) -> Result<(), WireFault>
         ensures ok { OnOk result (connect_fault self.old from to ≡ None) }
@@ -159,9 +161,10 @@ impl Wiring {
         Ok(())
     }
 
-    /// Finds the targets of each port, in the path order that is given, in which each node that was added stands once; nothing
-    /// is added or connected from then on. `Late` where the wiring is closed; else `Memory` where memory is refused. Either
-    /// leaves the wiring as it was. Cost: for each target one look at the nodes that reach it, and at the distinct connections to these.
+    /// Closes the wiring: finds the targets of each port, in the given path order. Requires that each added node is in the order,
+    /// and no node twice. Nothing can be added or connected afterwards. Errors: `Late` if the wiring is already closed; out of
+    /// memory (`Memory`). An error changes nothing. Cost: for each target, one visit of each node that reaches it, and of each
+    /// distinct connection to these nodes.
     pub fn close(&mut self, order: &[NodeId]) -> Result<(), WireFault>
         requires { IsPathOrder order.now self.old.ends }
         ensures ok { OnOk result (late_fault self.old ≡ None) }
@@ -185,7 +188,8 @@ impl Wiring {
         Ok(())
     }
 
-    /// The targets that a port or an export reaches, each once and in path order. None before `close`. Takes no memory.
+    /// Returns the targets that a port or an export reaches, each once and in path order. The slice is empty before `close`.
+    /// Allocates no memory.
     #[tactic(auto, unfolding(crate::specs::Wirings::targets_of))]
     pub fn resolve(&self, port: NodeId) -> &[NodeId]
         ensures targets { result.now ≡ targets_of self.now port }
@@ -197,9 +201,9 @@ impl Wiring {
         }
     }
 
-    /// What is wrong with a port: `TooFew` where a put, get or seq port reaches no target, and `TooMany` where it reaches
-    /// several, or where a seq port reaches a sequencer that a port before it in path order drives. None before `close`, and
-    /// where the node is no port. Takes no memory.
+    /// Returns the error of a port that is misconnected. `TooFew`: a put, get or seq port reaches no target. `TooMany`: it
+    /// reaches several, or a seq port reaches a sequencer that an earlier port in path order drives. Returns `None` otherwise,
+    /// before `close`, and if the node is not a port. Allocates no memory.
     #[tactic(auto, unfolding(crate::specs::Wirings::wire_fault))]
     pub fn fault_of(&self, port: NodeId) -> Option<WireFault>
         ensures { result ≡ wire_fault self.now port }
@@ -210,7 +214,7 @@ impl Wiring {
         }
     }
 
-    /// The path order with which the wiring was closed. None before `close`.
+    /// Returns the path order that was given to `close`. The slice is empty before `close`.
     pub fn order(&self) -> &[NodeId]
         ensures { result.now ≡ unwrap_or self.now.order [] }
     {
@@ -220,8 +224,8 @@ impl Wiring {
         }
     }
 
-    /// The nodes behind one in that path order: none where the node stands last or is none of them, and before `close`. Takes no
-    /// memory; the time is that of one look-up.
+    /// Returns the nodes after `node` in the path order. The slice is empty if `node` is the last or not in the order, and before
+    /// `close`. Allocates no memory. Cost: one look-up.
     pub fn order_behind(&self, node: NodeId) -> &[NodeId]
         ensures { result.now ≡ after_first (nat_eq node) (unwrap_or self.now.order []) }
     {
@@ -231,14 +235,14 @@ impl Wiring {
         }
     }
 
-    /// Whether the wiring is closed.
+    /// Returns whether the wiring is closed.
     pub fn is_closed(&self) -> bool
         ensures { result ≡ is_closed self.now }
     {
         self.closed.is_some()
     }
 
-    /// The kind of a port, and none where the node is no port. Takes no memory.
+    /// Returns the kind of the port at a node; `None` if the node is not a port. Allocates no memory.
     pub fn port_kind(&self, node: NodeId) -> Option<PortKind>
         ensures { result ≡ kind_at self.now.ends node }
     {
@@ -248,14 +252,14 @@ impl Wiring {
         }
     }
 
-    /// What was added at a node, and none where nothing was. Takes no memory.
+    /// Returns what was added at a node; `None` if nothing was added. Allocates no memory.
     pub fn end(&self, node: NodeId) -> Option<End>
         ensures { result ≡ end_at self.now.ends node }
     {
         self.ends.get(&node).copied()
     }
 
-    // Why no connection goes from a node to another.
+    // Returns why no connection may go from a node to another; `None` if one may.
     #[tactic(auto, unfolding(crate::specs::Wirings::connect_fault))]
     fn connect_fault(&self, from: NodeId, to: NodeId) -> Option<WireFault>
         ensures { result ≡ connect_fault self.now from to }
@@ -270,7 +274,7 @@ impl Wiring {
         }
     }
 
-    // Adds what stands at a node.
+    // Adds an end at a node. The requirement and the errors are those of `port`.
     fn add(&mut self, node: NodeId, end: End) -> Result<(), WireFault>
         requires { end_at self.old.ends node ≡ None }
         ensures ok { OnOk result (late_fault self.old ≡ None) }
@@ -287,7 +291,7 @@ impl Wiring {
 }
 
 impl Closed {
-    // The nodes behind one in path order.
+    // Returns the nodes after `node` in path order.
     fn behind(&self, node: NodeId) -> &[NodeId]
         ensures { result.now ≡ after_first (nat_eq node) (keys self.now.order) }
     {
@@ -297,7 +301,7 @@ impl Closed {
         }
     }
 
-    // What is wrong with a port of a kind.
+    // Returns the error of a port of this kind; `None` if it is correctly connected.
     fn port_fault(&self, kind: Option<PortKind>, port: NodeId) -> Option<WireFault>
         ensures { result ≡ port_fault kind (list_of self.now.targets port) (get nat_eq self.now.drivers) port }
     {
@@ -309,7 +313,7 @@ impl Closed {
         }
     }
 
-    // What is wrong with a seq port that reaches these targets.
+    // Returns the error of a seq port that reaches these targets; `None` if it is correctly connected.
     fn seq_fault(&self, targets: &[NodeId], port: NodeId) -> Option<WireFault>
         ensures { result ≡ seq_fault targets.now (get nat_eq self.now.drivers) port }
     {
@@ -320,7 +324,7 @@ impl Closed {
         }
     }
 
-    // Whether a port is the first that drives a sequencer.
+    // Returns whether a port is the first that drives a sequencer.
     fn drives(&self, port: NodeId, sequencer: NodeId) -> bool
         ensures { result ≡ is_some_of port (get nat_eq self.now.drivers sequencer) }
     {
@@ -331,7 +335,7 @@ impl Closed {
     }
 }
 
-// What is wrong with a put or get port that reaches these targets.
+// Returns the error of a put or get port that reaches these targets; `None` if it is correctly connected.
 fn count_fault(targets: &[NodeId]) -> Option<WireFault>
     ensures { result ≡ count_fault targets.now }
 {
@@ -342,7 +346,7 @@ fn count_fault(targets: &[NodeId]) -> Option<WireFault>
     }
 }
 
-// Adds what stands at a node behind the others.
+// Adds an end after the others. Errors: out of memory. An error changes nothing.
 fn add_end(ends: &mut IndexMap<NodeId, End>, node: NodeId, end: End) -> Result<(), AllocError>
     requires { get nat_eq ends.old node ≡ None }
     ensures added { OnOk result (ends.new.entries ≡ ends.old.entries ++ (node, end) ∷ []) }
@@ -353,7 +357,7 @@ fn add_end(ends: &mut IndexMap<NodeId, End>, node: NodeId, end: End) -> Result<(
     Ok(())
 }
 
-// Adds a connection behind the others.
+// Adds a connection after the others. Errors: out of memory. An error changes nothing.
 fn add_connection(
     connections: &mut Vec<Connection>,
     connection: Connection,

@@ -1,20 +1,5 @@
 -- The families with one more node.
-use Rattle.std.proofs.Common.{◌≡◌, ◌<◌, ◌≤◌, ℕ, zero, suc, false, true, List, [], ◌∷◌, ◌++◌, length, get_or, Option, Some, None, IsPermutation, rules, refl, ap, ◌∙◌, sym, inl, inr, arith}
-use Rattle.std.proofs.lemmas.Bool.{cases_lt}
-use Rattle.std.proofs.lemmas.List.{length_push}
-use Rattle.std.proofs.lemmas.List.Elements.{All-nil, All-cons, Contains-append_cases, Contains-append_right, Contains-get_or}
-use Rattle.std.proofs.lemmas.List.Kept.{AllPairs-cons}
-use Rattle.std.proofs.lemmas.List.Sorted.{All-permutation, Contains-permutation, IsPermutation-insert, IsPermutation-sym}
-use Rattle.std.specs.Prelude.{All, AllPairs, Contains}
-use Rattle.std.specs.List.{insert, list_any}
-use Rattle.std.specs.List.Sorted.{IsPartitionPoint}
-use Rattle.std.specs.declared.cmp.Ordering.{Ordering}
-use Rattle.std.specs.declared.cmp.Ordering.TheVariants.{Less, Equal, Greater}
-use Rattle.std.specs.Option.{option_map_or}
-use Rattle.std.specs.Ordering.{is_lt, ordering_reverse}
-use Rattle.uvm_tree.specs.declared.nodes.NodeKind.{NodeKind}
-use Rattle.uvm_tree.specs.Nodes.{Node, AreNodes, add_fault, child, is_child, under_at}
-use Rattle.uvm_tree.specs.Families.{AreFamilies, Place, is_in_front, place_at, place_cmp}
+use Rattle.uvm_tree.proofs.Common.{◌≡◌, ◌<◌, ◌≤◌, ℕ, zero, suc, false, true, List, [], ◌∷◌, ◌++◌, length, get_or, Option, Some, None, rules, refl, ap, ◌∙◌, sym, inl, inr, arith, cases_lt, length_push, All-nil, All-cons, Contains-append_cases, Contains-append_right, Contains-get_or, AllPairs-cons, All-permutation, Contains-permutation, IsPermutation-insert, IsPermutation-sym, Contains, insert, list_any, IsPartitionPoint, Ordering, Less, Equal, Greater, option_map_or, is_lt, ordering_reverse, NodeKind, Node, AreNodes, add_fault, child, is_child, under_at, AreFamilies, Place, is_in_front, place_at, place_cmp, IsPermutation, All, AllPairs}
 use Rattle.uvm_tree.proofs.Standing.{exact_place, has_place, less, place_total}
 use Rattle.uvm_tree.proofs.Grown.{free_name, held_parent, is_taken, some_nodes, under_before, under_last}
 use Rattle.uvm_tree.proofs.Kin.{place-is}

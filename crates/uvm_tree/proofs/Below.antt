@@ -1,14 +1,5 @@
 -- What stands below a node, and how it stands to what does not.
-use Rattle.std.proofs.Common.{◌≡◌, ◌<◌, ℕ, zero, suc, List, [], ◌∷◌, ◌++◌, length, Option, Some, None, IsSome, refl, ap, ◌∙◌, sym, subst, inl, inr, ◌⊎◌, arith, append_assoc}
-use Rattle.std.proofs.lemmas.List.{append-nil, same_from_push}
-use Rattle.std.specs.declared.cmp.Ordering.TheVariants.{Less}
-use Rattle.std.specs.Option.{option_map_or}
-use Rattle.uvm_glob.specs.declared.orders.Direction.{Direction}
-use Rattle.uvm_glob.specs.Orders.{order_of}
-use Rattle.uvm_tree.specs.Nodes.{Node, AreNodes, path_at, under_at}
-use Rattle.uvm_tree.specs.Cursors.{node_cmp}
-use Rattle.uvm_tree.specs.Families.{Place}
-use Rattle.uvm_tree.specs.Walks.{IsBelow}
+use Rattle.uvm_tree.proofs.Common.{◌≡◌, ◌<◌, ℕ, zero, suc, List, [], ◌∷◌, ◌++◌, length, Option, Some, None, IsSome, refl, ap, ◌∙◌, sym, subst, inl, inr, ◌⊎◌, arith, append_assoc, same_from_push, Less, option_map_or, Direction, order_of, Node, AreNodes, path_at, under_at, node_cmp, Place, IsBelow, append-nil}
 use Rattle.uvm_tree.proofs.Paths as paths
 use Rattle.uvm_tree.proofs.Paths.{Names, ends, name_cmp}
 

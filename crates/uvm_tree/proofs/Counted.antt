@@ -1,14 +1,5 @@
 -- Two lists in one order that have the same numbers are one.
-use Rattle.std.proofs.Common.{◌≡◌, ◌<◌, ◌+◌, ℕ, Bool, true, false, List, [], ◌∷◌, length, sum_by, All, IsPermutation, if◌then◌else◌, refl, sym, ap, ◌∙◌, subst, arith}
-use Rattle.std.specs.Prelude.{◌==◌}
-use Rattle.std.proofs.lemmas.Bool.Decides.{nat_tests}
-use Rattle.std.proofs.lemmas.List.Elements.{All-cons, All-head, All-tail}
-use Rattle.std.proofs.lemmas.List.Sums.{sum_by-cons}
-use Rattle.std.proofs.lemmas.List.Sorted.{sum_by-IsPermutation}
-use Rattle.std.specs.declared.cmp.Ordering.{Ordering}
-use Rattle.std.specs.Ordering.{is_lt}
-use Rattle.uvm_tree.specs.Nodes.{Node}
-use Rattle.uvm_tree.specs.Cursors.{OrdersNodes}
+use Rattle.uvm_tree.proofs.Common.{◌≡◌, ◌<◌, ◌+◌, ℕ, Bool, true, false, List, [], ◌∷◌, length, sum_by, if◌then◌else◌, refl, sym, ap, ◌∙◌, subst, arith, nat_tests, All-cons, All-head, All-tail, sum_by-cons, sum_by-IsPermutation, Ordering, is_lt, Node, OrdersNodes, All, IsPermutation, ◌==◌}
 use Rattle.uvm_tree.proofs.Ordered.{neither}
 use Rattle.uvm_tree.proofs.Sorted.{Behind, NotAfter, first-of-two}
 

@@ -1,22 +1,5 @@
 -- The next node in Down: the first child, or the next child of the nearest node above that has one.
-use Rattle.std.proofs.Common.{◌≡◌, ◌<◌, ◌&&◌, ℕ, zero, suc, Bool, true, false, List, [], ◌∷◌, ◌++◌, length, Option, Some, None, is_some, refl, ap, ◌∙◌, sym, subst, inl, inr, ◌⊎◌, arith, append_assoc, filter}
-use Rattle.std.proofs.lemmas.Cmp.{nat_list_cmp_total, tied_itself}
-use Rattle.std.proofs.lemmas.Map.Lookups.{exact_bytes}
-use Rattle.std.proofs.lemmas.List.{append-nil}
-use Rattle.std.proofs.lemmas.Option.{slice_get_within}
-use Rattle.std.specs.declared.cmp.Ordering.{Ordering}
-use Rattle.std.specs.declared.cmp.Ordering.TheVariants.{Less, Equal, Greater}
-use Rattle.std.specs.Cmp.{IsTotalOrder}
-use Rattle.std.specs.Option.{option_map_or}
-use Rattle.std.specs.Ordering.{is_lt, ordering_reverse}
-use Rattle.uvm_glob.specs.declared.orders.Direction.{Direction}
-use Rattle.uvm_glob.specs.declared.orders.Direction.TheVariants.{Down}
-use Rattle.uvm_glob.specs.Orders.{down_cmp, order_of}
-use Rattle.uvm_tree.specs.Nodes.{Node, AreNodes, node_at, path_at, under_at}
-use Rattle.uvm_tree.specs.Children.{is_named_before}
-use Rattle.uvm_tree.specs.Cursors.{IsLeast, is_before, node_cmp, numbers_of}
-use Rattle.uvm_tree.specs.Families.{IsNextChild, is_child_after}
-use Rattle.uvm_tree.specs.Walks.{IsBelow, IsBeside}
+use Rattle.uvm_tree.proofs.Common.{◌≡◌, ◌<◌, ◌&&◌, ℕ, zero, suc, Bool, true, false, List, [], ◌∷◌, ◌++◌, length, Option, Some, None, is_some, refl, ap, ◌∙◌, sym, subst, inl, inr, ◌⊎◌, arith, append_assoc, filter, nat_list_cmp_total, tied_itself, exact_bytes, slice_get_within, Ordering, Less, Equal, Greater, IsTotalOrder, option_map_or, is_lt, ordering_reverse, Direction, Down, down_cmp, order_of, Node, AreNodes, node_at, path_at, under_at, is_named_before, IsLeast, is_before, node_cmp, numbers_of, IsNextChild, is_child_after, IsBelow, IsBeside, append-nil}
 use Rattle.uvm_tree.proofs.Below as below
 use Rattle.uvm_tree.proofs.Below.{Through}
 use Rattle.uvm_tree.proofs.Standing.{less}

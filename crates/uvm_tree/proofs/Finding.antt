@@ -1,15 +1,5 @@
 -- The node at a path.
-use Rattle.std.proofs.Common.{◌≡◌, ◌<◌, ◌≢◌, ℕ, zero, suc, Bool, true, false, List, [], ◌∷◌, ◌++◌, length, get_or, Option, Some, None, IfSome, IfNone, is_some, refl, ap, ◌∙◌, sym, inl, inr, arith, append_assoc, take, drop, take-append-drop, ◌+◌, ◌&&◌, ◌||◌, ◌==◌, nat_eq}
-use Rattle.std.proofs.lemmas.Bool.{eqb-true}
-use Rattle.std.proofs.lemmas.List.{append-nil, length_push, same_from_push, take_more}
-use Rattle.std.proofs.lemmas.Option.{slice_get_within}
-use Rattle.std.proofs.lemmas.List.Quantifiers.{position-Some}
-use Rattle.std.proofs.lemmas.Slice.Eq.{bytes_eq-Decides, slice_eq-Decides}
-use Rattle.std.specs.List.{list_any}
-use Rattle.std.specs.Cmp.Lexicographic.{pointwise}
-use Rattle.std.specs.Option.{option_map_or}
-use Rattle.uvm_tree.specs.Nodes.{Node, AreNodes, is_child, is_path, node_at, number_at, path_at, top, under_at}
-use Rattle.uvm_tree.specs.Families.{Place}
+use Rattle.uvm_tree.proofs.Common.{◌≡◌, ◌<◌, ◌≢◌, ℕ, zero, suc, Bool, true, false, List, [], ◌∷◌, ◌++◌, length, get_or, Option, Some, None, IfSome, IfNone, is_some, refl, ap, ◌∙◌, sym, inl, inr, arith, append_assoc, take, drop, take-append-drop, ◌+◌, ◌&&◌, ◌||◌, nat_eq, eqb-true, length_push, same_from_push, take_more, slice_get_within, position-Some, bytes_eq-Decides, slice_eq-Decides, list_any, pointwise, option_map_or, Node, AreNodes, is_child, is_path, node_at, number_at, path_at, top, under_at, Place, ◌==◌, append-nil}
 use Rattle.uvm_tree.proofs.Below.{some_place, top-path}
 use Rattle.uvm_tree.proofs.Firsts.{first-at, none-at}
 use Rattle.uvm_tree.proofs.Grown.{is_taken, within}

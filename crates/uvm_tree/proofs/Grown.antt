@@ -1,19 +1,6 @@
 -- One more node.
-use Rattle.std.proofs.Common.{◌≡◌, ◌<◌, ◌≤◌, ℕ, zero, suc, ◌+◌, Bool, true, false, ◌&&◌, ◌||◌, ◌==◌, nat_eq, List, [], ◌∷◌, ◌++◌, Option, Some, None, IsSome, Result, Ok, Err, OnOk, OnErr, is_none, length, refl, subst, ap, ◌∙◌, sym, inl, inr, arith, eq-eqb, option_and_then, ◌⊎◌}
+use Rattle.uvm_tree.proofs.Common.{◌≡◌, ◌<◌, ◌≤◌, ℕ, zero, suc, ◌+◌, Bool, true, false, ◌&&◌, ◌||◌, nat_eq, List, [], ◌∷◌, ◌++◌, Option, Some, None, IsSome, Result, Ok, Err, OnOk, OnErr, is_none, length, refl, subst, ap, ◌∙◌, sym, inl, inr, arith, eq-eqb, option_and_then, ◌⊎◌, cases_lt, nat_list_eq_equiv, length_push, same_from_push, slice_get_within, pointwise, list_any, option_map_or, first_given, fault_if, TreeFault, NoParent, NameTaken, TooDeep, Full, NodeKind, Node, AreNodes, AreSiblingsApart, NodesGrow, add_fault, child, is_child, most_nodes, node_at, path_at, top, under_at, ◌==◌}
 use borrow.Author.Tests.{ltb-false}
-use Rattle.std.proofs.lemmas.Bool.{cases_lt}
-use Rattle.std.proofs.lemmas.Cmp.{nat_list_eq_equiv}
-use Rattle.std.proofs.lemmas.List.{length_push, same_from_push}
-use Rattle.std.proofs.lemmas.Option.{slice_get_within}
-use Rattle.std.specs.Cmp.Lexicographic.{pointwise}
-use Rattle.std.specs.List.{list_any}
-use Rattle.std.specs.Option.{option_map_or}
-use Rattle.uvm_glob.specs.Lists.{first_given}
-use Rattle.uvm_glob.specs.Faults.{fault_if}
-use Rattle.uvm_tree.specs.declared.faults.TreeFault.{TreeFault}
-use Rattle.uvm_tree.specs.declared.faults.TreeFault.TheVariants.{NoParent, NameTaken, TooDeep, Full}
-use Rattle.uvm_tree.specs.declared.nodes.NodeKind.{NodeKind}
-use Rattle.uvm_tree.specs.Nodes.{Node, AreNodes, AreSiblingsApart, NodesGrow, add_fault, child, is_child, most_nodes, node_at, path_at, top, under_at}
 
 -- the nodes before one more are what they were
 before : (nodes : List Node) (x : Node) (id : ℕ) → id < length nodes → node_at (nodes ++ x ∷ []) id ≡ node_at nodes id

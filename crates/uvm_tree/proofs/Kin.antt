@@ -1,12 +1,5 @@
 -- Which nodes are the children of a node, and their names.
-use Rattle.std.proofs.Common.{◌≡◌, ◌==◌, ℕ, Bool, true, false, ◌&&◌, List, [], Option, Some, None, refl, ap, option_and_then, option_map, eq-eqb}
-use Rattle.std.proofs.lemmas.Bool.{eqb-true}
-use Rattle.std.specs.Cmp.Lexicographic.{slice_cmp}
-use Rattle.std.specs.Option.{option_cmp, option_map_or}
-use Rattle.std.specs.Ordering.{is_lt, nat_cmp}
-use Rattle.uvm_tree.specs.Nodes.{Node, node_at, parent_of, under_at}
-use Rattle.uvm_tree.specs.Children.{is_named_before, is_under, name_at, own_name}
-use Rattle.uvm_tree.specs.Families.{Place, is_child_after, place_at}
+use Rattle.uvm_tree.proofs.Common.{◌≡◌, ℕ, Bool, true, false, ◌&&◌, List, [], Option, Some, None, refl, ap, option_and_then, option_map, eq-eqb, eqb-true, slice_cmp, option_cmp, option_map_or, is_lt, nat_cmp, Node, node_at, parent_of, under_at, is_named_before, is_under, name_at, own_name, Place, is_child_after, place_at, ◌==◌}
 
 pub both-true : (a b : Bool) → (a && b) ≡ true → (a ≡ true) × (b ≡ true)
 both-true true true e = (refl, refl)

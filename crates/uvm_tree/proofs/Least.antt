@@ -1,11 +1,5 @@
 -- The least of the nodes that pass a test, where it is known which one it is.
-use Rattle.std.proofs.Common.{◌≡◌, ◌<◌, ◌≤◌, ◌+◌, ◌-◌, ℕ, zero, suc, Bool, true, false, List, [], ◌∷◌, length, Some, None, filter, refl, ap, ◌∙◌, inl, inr, arith, rules, if◌then◌else◌}
-use Rattle.std.proofs.lemmas.Bool.{cases_lt}
-use Rattle.std.proofs.lemmas.List.Elements.{All-nil, All-cons, Contains-append_right}
-use Rattle.std.specs.Prelude.{All, Contains}
-use Rattle.std.specs.List.{range_with_len}
-use Rattle.uvm_tree.specs.Nodes.{Node}
-use Rattle.uvm_tree.specs.Cursors.{IsLeast, numbers_of}
+use Rattle.uvm_tree.proofs.Common.{◌≡◌, ◌<◌, ◌≤◌, ◌+◌, ◌-◌, ℕ, zero, suc, Bool, true, false, List, [], ◌∷◌, length, Some, None, filter, refl, ap, ◌∙◌, inl, inr, arith, rules, if◌then◌else◌, cases_lt, All-nil, All-cons, Contains-append_right, Contains, range_with_len, Node, IsLeast, numbers_of, All}
 
 -- a test is false where it cannot be true
 pub not_true : (b : Bool) → (b ≡ true → ⊥) → b ≡ false

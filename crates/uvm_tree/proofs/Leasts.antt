@@ -1,14 +1,6 @@
 -- The least of some numbers.
-use Rattle.std.proofs.Common.{◌≡◌, ℕ, Bool, true, false, List, [], ◌∷◌, Some, refl, ap, ◌∙◌, sym, inl, inr, rules}
-use Rattle.std.proofs.lemmas.List.Elements.{All-nil, All-cons, All-head, All-tail, Contains-append_left, Contains-append_right, Contains-append_cases}
-use Rattle.std.proofs.lemmas.Cmp.{upto, tied_itself}
-use Rattle.std.specs.Prelude.{All, Contains}
-use Rattle.std.specs.declared.cmp.Ordering.{Ordering}
-use Rattle.std.specs.declared.cmp.Ordering.TheVariants.{Less, Equal, Greater}
-use Rattle.std.specs.Cmp.{IsTotalOrder}
+use Rattle.uvm_tree.proofs.Common.{◌≡◌, ℕ, Bool, true, false, List, [], ◌∷◌, Some, refl, ap, ◌∙◌, sym, inl, inr, rules, All-nil, All-cons, All-head, All-tail, Contains-append_left, Contains-append_right, Contains-append_cases, upto, tied_itself, Contains, Ordering, Less, Equal, Greater, IsTotalOrder, is_lt, is_gt, ordering_reverse, least, sooner, IsLeast, LeastIsLeast, All}
 use Rattle.std.specs.List.{fold}
-use Rattle.std.specs.Ordering.{is_lt, is_gt, ordering_reverse}
-use Rattle.uvm_tree.specs.Cursors.{least, sooner, IsLeast, LeastIsLeast}
 
 lt-reverse : (o : Ordering) → is_lt (ordering_reverse o) ≡ is_gt o
 lt-reverse Less = refl

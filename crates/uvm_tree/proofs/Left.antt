@@ -1,24 +1,5 @@
 -- The children that are left.
-use Rattle.std.proofs.Common.{◌≡◌, ◌<◌, ◌≤◌, ◌+◌, ◌-◌, ◌==◌, ℕ, zero, suc, Bool, true, false, not, ◌&&◌, List, [], ◌∷◌, ◌++◌, Option, Some, None, filter, length, refl, ap, ◌∙◌, sym, subst, arith, option_map, option_and_then}
-use Rattle.std.proofs.Math.Bool.{and-true}
-use Rattle.std.proofs.lemmas.Bool.{eqb-true, eqb-false}
-use Rattle.std.proofs.lemmas.List.Elements.{All-contains, All-head, All-tail, filter_agree, filter_passes}
-use Rattle.std.proofs.lemmas.List.Sorted.{IsPermutation-refl, IsPermutation-filter_both, length_permutation}
-use Rattle.std.proofs.lemmas.Cmp.{nat_list_cmp_total, on_total, tied_itself}
-use Rattle.std.proofs.lemmas.Map.Lookups.{exact_bytes}
-use Rattle.std.specs.Prelude.{All, IsPermutation}
-use Rattle.std.specs.declared.cmp.Ordering.{Ordering}
-use Rattle.std.specs.declared.cmp.Ordering.TheVariants.{Less, Equal, Greater}
-use Rattle.std.specs.Cmp.{IsTotalOrder}
-use Rattle.std.specs.Cmp.Lexicographic.{slice_cmp, options_total}
-use Rattle.std.specs.List.{range_with_len}
-use Rattle.std.specs.Option.{option_cmp, option_map_or, option_or}
-use Rattle.std.specs.Ordering.{is_lt, nat_cmp, ordering_reverse}
-use Rattle.uvm_tree.specs.ChildCursors.{CursorValue, children_left, is_left, is_named_after, seen}
-use Rattle.uvm_tree.specs.Children.{ChildrenValue, GivesNextChild, all_children, children_of, is_under, is_named_before, name_at, own_name}
-use Rattle.uvm_tree.specs.Cursors.{IsLeast, numbers_of}
-use Rattle.uvm_tree.specs.Families.{IsNextChild, is_child_after}
-use Rattle.uvm_tree.specs.Nodes.{Node, AreNodes, node_at, parent_of}
+use Rattle.uvm_tree.proofs.Common.{◌≡◌, ◌<◌, ◌≤◌, ◌+◌, ◌-◌, ℕ, zero, suc, Bool, true, false, not, ◌&&◌, List, [], ◌∷◌, ◌++◌, Option, Some, None, filter, length, refl, ap, ◌∙◌, sym, subst, arith, option_map, option_and_then, and-true, eqb-true, eqb-false, All-contains, All-head, All-tail, filter_agree, filter_passes, IsPermutation-refl, IsPermutation-filter_both, length_permutation, nat_list_cmp_total, on_total, tied_itself, exact_bytes, Ordering, Less, Equal, Greater, IsTotalOrder, slice_cmp, options_total, range_with_len, option_cmp, option_map_or, option_or, is_lt, nat_cmp, ordering_reverse, CursorValue, children_left, is_left, is_named_after, seen, ChildrenValue, GivesNextChild, all_children, children_of, is_under, is_named_before, name_at, own_name, IsLeast, numbers_of, IsNextChild, is_child_after, Node, AreNodes, node_at, parent_of, ◌==◌, All, IsPermutation}
 use Rattle.uvm_tree.proofs.Grown.{within, siblings}
 use Rattle.uvm_tree.proofs.Kin.{after_child, named}
 use Rattle.uvm_tree.proofs.Least.{least-none, least-some}

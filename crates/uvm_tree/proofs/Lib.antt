@@ -1,5 +1,6 @@
 pub mod Added
 pub mod Below
+mod Common
 pub mod Counted
 pub mod Down
 pub mod Finding

@@ -1,18 +1,5 @@
 -- The nodes of a tree in order.
-use Rattle.std.proofs.Common.{◌≡◌, ◌<◌, false, [], ◌∷◌, Some, None, length, refl, ap}
-use Rattle.std.proofs.lemmas.Cmp.{on_total}
-use Rattle.std.proofs.lemmas.Map.Lookups.{CmpEqualImpliesEq, exact_bytes}
-use Rattle.std.proofs.lemmas.List.Elements.{All-contains}
-use Rattle.std.specs.declared.cmp.Ordering.{Ordering}
-use Rattle.std.specs.declared.cmp.Ordering.TheVariants.{Less, Equal, Greater}
-use Rattle.std.specs.Cmp.{IsTotalOrder}
-use Rattle.std.specs.Cmp.Lexicographic.{slice_cmp}
-use Rattle.std.specs.Ordering.{is_lt, nat_cmp, ordering_then, ordering_reverse}
-use Rattle.uvm_glob.specs.declared.orders.Direction.{Direction}
-use Rattle.uvm_glob.specs.declared.orders.Direction.TheVariants.{Down, Up}
-use Rattle.uvm_glob.specs.Orders.{down_cmp, up_cmp, order_of}
-use Rattle.uvm_tree.specs.Nodes.{path_at}
-use Rattle.uvm_tree.specs.Cursors.{AreNodesOrdered, OneIsLeast}
+use Rattle.uvm_tree.proofs.Common.{◌≡◌, ◌<◌, false, [], ◌∷◌, Some, None, length, refl, ap, on_total, CmpEqualImpliesEq, exact_bytes, All-contains, Ordering, Less, Equal, Greater, IsTotalOrder, slice_cmp, is_lt, nat_cmp, ordering_then, ordering_reverse, Direction, Down, Up, down_cmp, up_cmp, order_of, path_at, AreNodesOrdered, OneIsLeast}
 
 both_equal : (a b : Ordering) → ordering_then a b ≡ Equal → (a ≡ Equal) × (b ≡ Equal)
 both_equal Less b e = cc

@@ -1,14 +1,5 @@
 -- Where lists of names stand that go on from one list.
-use Rattle.std.proofs.Common.{◌≡◌, ℕ, List, [], ◌∷◌, ◌++◌, refl, ap, sym, inl, inr, ◌⊎◌}
-use Rattle.std.proofs.lemmas.Cmp.{nat_list_cmp_total, tied_itself}
-use Rattle.std.proofs.lemmas.Map.Lookups.{exact_bytes}
-use Rattle.std.specs.declared.cmp.Ordering.{Ordering}
-use Rattle.std.specs.declared.cmp.Ordering.TheVariants.{Less, Equal, Greater}
-use Rattle.std.specs.Cmp.Lexicographic.{slice_cmp}
-use Rattle.std.specs.Ordering.{nat_cmp, ordering_then}
-use Rattle.uvm_glob.specs.Orders.{down_cmp, up_cmp, order_of}
-use Rattle.uvm_glob.specs.declared.orders.Direction.{Direction}
-use Rattle.uvm_glob.specs.declared.orders.Direction.TheVariants.{Down, Up}
+use Rattle.uvm_tree.proofs.Common.{◌≡◌, ℕ, List, [], ◌∷◌, ◌++◌, refl, ap, sym, inl, inr, ◌⊎◌, nat_list_cmp_total, tied_itself, exact_bytes, Ordering, Less, Equal, Greater, slice_cmp, nat_cmp, ordering_then, down_cmp, up_cmp, order_of, Direction, Down, Up}
 
 abbrev pub Names : Type 0
 Names = List (List ℕ)

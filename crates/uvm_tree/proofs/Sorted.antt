@@ -1,20 +1,6 @@
 -- Numbers in an order.
-use Rattle.std.proofs.Common.{◌≡◌, ℕ, suc, ◌+◌, Bool, true, false, List, [], ◌∷◌, ◌++◌, fold, refl, arith, if◌then◌else◌, IsPermutation, AllPairs, All, append-nil}
-use Rattle.std.proofs.lemmas.List.Elements.{All-nil, All-cons, All-weaker}
-use Rattle.std.proofs.lemmas.List.Kept.{AllPairs-cons}
-use Rattle.std.proofs.lemmas.List.Sorted.{IsPermutation-refl, IsPermutation-trans, IsPermutation-middle, IsPermutation-insert, IsPermutation-append_left, All-permutation}
-use Rattle.std.specs.declared.cmp.Ordering.{Ordering}
-use Rattle.std.specs.declared.cmp.Ordering.TheVariants.{Less, Equal, Greater}
-use Rattle.std.specs.Cmp.{IsTotalOrder}
-use Rattle.std.specs.Ordering.{is_lt, ordering_reverse}
-use Rattle.std.specs.List.{position_or_len}
-use Rattle.std.proofs.lemmas.Cmp.{on_total}
-use Rattle.uvm_glob.specs.declared.orders.Direction.{Direction}
-use Rattle.uvm_glob.specs.declared.orders.Direction.TheVariants.{Down}
-use Rattle.uvm_glob.specs.Orders.{order_of, down_cmp}
-use Rattle.uvm_tree.specs.Nodes.{Node, path_at}
-use Rattle.uvm_tree.specs.Cursors.{is_before, node_cmp, numbers_of}
-use Rattle.uvm_tree.specs.Sorted.{inserted, path_order, PathOrderIsInOrder}
+use Rattle.uvm_tree.proofs.Common.{◌≡◌, ℕ, suc, ◌+◌, Bool, true, false, List, [], ◌∷◌, ◌++◌, refl, arith, if◌then◌else◌, All-nil, All-cons, All-weaker, AllPairs-cons, IsPermutation-refl, IsPermutation-trans, IsPermutation-middle, IsPermutation-insert, IsPermutation-append_left, All-permutation, Ordering, Less, Equal, Greater, IsTotalOrder, is_lt, ordering_reverse, position_or_len, on_total, Direction, Down, order_of, down_cmp, Node, path_at, is_before, node_cmp, numbers_of, inserted, path_order, PathOrderIsInOrder, IsPermutation, AllPairs, All, append-nil}
+use Rattle.std.proofs.Common.{fold}
 
 -- an insertion moves numbers, and so does an order
 pub moved : (before : ℕ → ℕ → Bool) (order numbers : List ℕ) → IsPermutation (order ++ numbers) (fold (λ order n. inserted before n order) order numbers)

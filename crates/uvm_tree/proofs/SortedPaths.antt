@@ -1,18 +1,5 @@
 -- The path order is what a sort by paths gives.
-use Rattle.std.proofs.Common.{◌≡◌, ◌<◌, ◌≤◌, ◌+◌, ◌-◌, ℕ, zero, suc, Bool, false, List, [], ◌∷◌, length, get_or, Some, None, All, IsPermutation, arith}
-use Rattle.std.proofs.lemmas.Cmp.{on_total}
-use Rattle.std.proofs.lemmas.List.Elements.{All-nil, All-cons}
-use Rattle.std.proofs.lemmas.List.MinMax.{ranks_by}
-use Rattle.std.proofs.lemmas.List.Sorted.{All-permutation, sorted_far}
-use Rattle.std.specs.Cmp.{IsTotalOrder}
-use Rattle.std.specs.List.{range_with_len}
-use Rattle.std.specs.List.Sorted.{IsSortedBy}
-use Rattle.uvm_glob.specs.declared.orders.Direction.{Direction}
-use Rattle.uvm_glob.specs.declared.orders.Direction.TheVariants.{Down}
-use Rattle.uvm_glob.specs.Orders.{order_of, down_cmp}
-use Rattle.uvm_tree.specs.Nodes.{Node, AreNodes, path_at, top}
-use Rattle.uvm_tree.specs.Cursors.{is_before, node_cmp, numbers_of}
-use Rattle.uvm_tree.specs.Sorted.{path_order}
+use Rattle.uvm_tree.proofs.Common.{◌≡◌, ◌<◌, ◌≤◌, ◌+◌, ◌-◌, ℕ, zero, suc, Bool, false, List, [], ◌∷◌, length, get_or, Some, None, arith, on_total, All-nil, All-cons, ranks_by, All-permutation, sorted_far, IsTotalOrder, range_with_len, IsSortedBy, Direction, Down, order_of, down_cmp, Node, AreNodes, path_at, top, is_before, node_cmp, numbers_of, path_order, All, IsPermutation}
 use Rattle.uvm_tree.proofs.Counted.{one-order}
 use Rattle.uvm_tree.proofs.Ordered.{nodes_are_ordered}
 use Rattle.uvm_tree.proofs.Sorted.{Behind, moved, path-order-behind}

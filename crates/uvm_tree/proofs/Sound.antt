@@ -1,12 +1,5 @@
 -- The paths of a tree have no fault.
-use Rattle.std.proofs.Common.{◌≡◌, ◌∷◌, ◌++◌, ◌∙◌, ℕ, Bool, true, false, List, [], Option, Some, None, OnSome, is_some, refl, ap, sym}
-use Rattle.std.proofs.lemmas.List.Elements.{All-push}
-use Rattle.uvm_glob.specs.Lists.{first_given}
-use Rattle.uvm_glob.specs.Faults.{fault_if}
-use Rattle.uvm_glob.specs.Paths.{path_fault}
-use Rattle.uvm_tree.specs.declared.faults.TreeFault.TheVariants.{NoParent, NameTaken, TooDeep, Full}
-use Rattle.uvm_tree.specs.declared.nodes.NodeKind.{NodeKind}
-use Rattle.uvm_tree.specs.Nodes.{Node, AreNodes, AreSound, add_fault, child, number_at, path_at, top}
+use Rattle.uvm_tree.proofs.Common.{◌≡◌, ◌∷◌, ◌++◌, ◌∙◌, ℕ, Bool, true, false, List, [], Option, Some, None, OnSome, is_some, refl, ap, sym, All-push, first_given, fault_if, path_fault, NoParent, NameTaken, TooDeep, Full, NodeKind, Node, AreNodes, AreSound, add_fault, child, number_at, path_at, top}
 use Rattle.uvm_tree.proofs.Finding.{found-at, read_path}
 
 -- where none of four faults is given, the third is not there

@@ -1,20 +1,5 @@
 -- Where the children of a node stand among the nodes family by family.
-use Rattle.std.proofs.Common.{◌≡◌, ◌<◌, ◌≤◌, ◌==◌, ℕ, zero, suc, Bool, true, false, not, List, [], ◌∷◌, length, get_or, Option, Some, None, refl, ap, ◌∙◌, sym, subst, inl, inr, arith, IsSome, option_and_then, if◌then◌else◌, slice_get, eq-eqb}
-use Rattle.std.proofs.lemmas.Bool.{cases_lt, eqb-true}
-use Rattle.std.proofs.lemmas.Bool.Decides.{nat_tests}
-use Rattle.std.proofs.lemmas.Cmp.{nat_cmp_total, nat_list_cmp_total, on_total, then_total, tied_itself, upto}
-use Rattle.std.proofs.lemmas.Map.Lookups.{exact_bytes, exact_pairs, exact_unsigned}
-use Rattle.std.specs.Prelude.{Contains}
-use Rattle.std.specs.declared.cmp.Ordering.{Ordering}
-use Rattle.std.specs.declared.cmp.Ordering.TheVariants.{Less, Equal, Greater}
-use Rattle.std.specs.Cmp.{IsTotalOrder}
-use Rattle.std.specs.Cmp.Lexicographic.{slice_cmp}
-use Rattle.std.specs.List.Sorted.{IsPartitionedBy, IsPartitionPoint}
-use Rattle.std.specs.Option.{option_map_or}
-use Rattle.std.specs.Ordering.{is_gt, is_lt, nat_cmp, ordering_reverse}
-use Rattle.uvm_tree.specs.Nodes.{Node, AreNodes, under_at}
-use Rattle.uvm_tree.specs.Children.{is_named_before}
-use Rattle.uvm_tree.specs.Families.{AreFamilies, IsNextChild, Place, child_in, is_child_after, is_in_front, is_passed, is_upto, place_at, place_cmp}
+use Rattle.uvm_tree.proofs.Common.{◌≡◌, ◌<◌, ◌≤◌, ℕ, zero, suc, Bool, true, false, not, List, [], ◌∷◌, length, get_or, Option, Some, None, refl, ap, ◌∙◌, sym, subst, inl, inr, arith, IsSome, option_and_then, if◌then◌else◌, slice_get, eq-eqb, cases_lt, eqb-true, nat_tests, nat_cmp_total, nat_list_cmp_total, on_total, then_total, tied_itself, upto, exact_bytes, exact_pairs, exact_unsigned, Contains, Ordering, Less, Equal, Greater, IsTotalOrder, slice_cmp, IsPartitionedBy, IsPartitionPoint, option_map_or, is_gt, is_lt, nat_cmp, ordering_reverse, Node, AreNodes, under_at, is_named_before, AreFamilies, IsNextChild, Place, child_in, is_child_after, is_in_front, is_passed, is_upto, place_at, place_cmp, ◌==◌}
 use Rattle.uvm_tree.proofs.Grown.{within}
 use Rattle.uvm_tree.proofs.Least.{not_true}
 use Rattle.uvm_tree.proofs.Kin.{after_child, before_by_name, child_after, follows, place-is}

@@ -1,15 +1,5 @@
 -- The next node in Up: the first below the next child of the parent, or the parent.
-use Rattle.std.proofs.Common.{◌≡◌, ◌<◌, ◌&&◌, ℕ, zero, suc, Bool, true, false, List, [], ◌∷◌, ◌++◌, length, Option, Some, None, is_some, option_and_then, refl, ap, ◌∙◌, sym, subst, inl, inr, ◌⊎◌, arith, filter, append_assoc, length-append}
-use Rattle.std.specs.declared.cmp.Ordering.TheVariants.{Less}
-use Rattle.std.specs.Cmp.{IsTotalOrder}
-use Rattle.std.specs.Ordering.{is_lt}
-use Rattle.uvm_glob.specs.declared.orders.Direction.TheVariants.{Up}
-use Rattle.uvm_glob.specs.Orders.{up_cmp}
-use Rattle.uvm_tree.specs.Nodes.{Node, AreNodes, node_at, path_at, under_at}
-use Rattle.uvm_tree.specs.Children.{is_named_before}
-use Rattle.uvm_tree.specs.Cursors.{IsLeast, is_before, node_cmp, numbers_of}
-use Rattle.uvm_tree.specs.Families.{IsNextChild, is_child_after}
-use Rattle.uvm_tree.specs.Walks.{IsBelow, IsFirstBelow}
+use Rattle.uvm_tree.proofs.Common.{◌≡◌, ◌<◌, ◌&&◌, ℕ, zero, suc, Bool, true, false, List, [], ◌∷◌, ◌++◌, length, Option, Some, None, is_some, option_and_then, refl, ap, ◌∙◌, sym, subst, inl, inr, ◌⊎◌, arith, filter, append_assoc, length-append, Less, IsTotalOrder, is_lt, Up, up_cmp, Node, AreNodes, node_at, path_at, under_at, is_named_before, IsLeast, is_before, node_cmp, numbers_of, IsNextChild, is_child_after, IsBelow, IsFirstBelow}
 use Rattle.uvm_tree.proofs.Below as below
 use Rattle.uvm_tree.proofs.Down.{compared, no_child, not_both, not_itself, one_child, true-and}
 use Rattle.uvm_tree.proofs.Standing.{less}

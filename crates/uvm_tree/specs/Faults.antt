@@ -1,4 +1,4 @@
--- What is told of each fault.
+-- The texts of the errors.
 use Rattle.std.specs.Prelude.{ℕ, List, codes}
 use Rattle.uvm_tree.specs.declared.faults.TreeFault.{TreeFault}
 use Rattle.uvm_tree.specs.declared.faults.TreeFault.TheVariants.{NoParent, NameTaken, TooDeep, Full, Memory}

@@ -6,5 +6,5 @@ mod Rooms
 pub mod Families
 pub mod Walks
 pub mod Sorted
--- what the bodies go by, and no caller cites
+-- definitions that only the bodies use, and no caller cites
 pub mod ChildCursors

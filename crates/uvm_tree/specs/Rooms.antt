@@ -1,11 +1,12 @@
--- What a tree keeps.
+-- The invariant of a tree.
 use Rattle.std.specs.Prelude.{◌≡◌, ◌≤◌, ◌<◌, ◌∷◌, length, vec_capacity}
 use Rattle.std.specs.Option.{ForSome}
 use Rattle.uvm_tree.specs.declared.trees.Tree.TheInside.{Inside}
 use Rattle.uvm_tree.specs.Families.{AreFamilies}
 use Rattle.uvm_tree.specs.Nodes.{AreNodes, AreSound, most_nodes, path_at}
 
--- the nodes are those of a tree, no path has a fault, the children of each node stand in order, there are few, and room is for the child of a node
+-- the nodes satisfy `AreNodes`, no path has an error, the families satisfy `AreFamilies`, and at most `most_nodes` nodes exist besides the
+-- root; a reservation has its parent's path, and each list of nodes has capacity for one more
 pub record IsTree (t : Inside) : Type 0 where
   pub nodes : AreNodes (t.top ∷ t.nodes.items)
   pub sound : AreSound (t.top ∷ t.nodes.items)

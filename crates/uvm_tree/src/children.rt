@@ -1,4 +1,4 @@
-//! The children of a node.
+//! The iterator over the children of a node.
 
 ghost use Rattle.std.specs.Prelude.{◌≡◌, Some, option_and_then};
 ghost use Rattle.std.specs.Option.{option_copied};
@@ -12,8 +12,8 @@ use crate::trees::Tree;
 use std::marker::Model;
 use uvm_glob::Name;
 
-/// An iterator over the children of a node, in byte order of their names. Contracts see the nodes of the tree, and the children that
-/// are left. Each step takes no memory, and the time of a few comparisons of names.
+/// An iterator over the children of a node, in byte order of their names. Contracts see the nodes of the tree and the children not yet
+/// returned. Cost of a step: O(log n) comparisons of names for n nodes; no allocation.
 #[derive(Drop)]
 pub struct Children<'a> {
     cursor: Cursor<'a>,
@@ -28,7 +28,7 @@ impl<'a> Model for Children<'a> {
     ghost view = { λ c. seen c.cursor };
 }
 
-// Stands behind the last child that was given.
+// The position of the iterator: the child that it returned last, if any.
 #[derive(Drop)]
 struct Cursor<'a> {
     tree: &'a Tree,
@@ -45,7 +45,7 @@ impl<'a> Model for Cursor<'a> {
 }
 
 impl Tree {
-    /// The children of a node, in byte order of their names: all of them, each once, and none where there is no such node.
+    /// Returns an iterator over the children of `parent`, in byte order of their names, each once. It is empty if there is no such node.
     #[tactic(auto, using(crate::proofs::Left::seen_all))]
     pub fn children(&self, parent: NodeId) -> Children<'_>
         ensures { result ≡ all_children self.now.nodes parent }
@@ -79,14 +79,14 @@ impl Iterator for Children<'_> {
 }
 
 impl Cursor<'_> {
-    // Goes on behind a child.
+    // Moves the cursor past `child`.
     fn pass(&mut self, child: NodeId)
         ensures { self.new ≡ record self.old { last = Some child } }
     {
         self.last = Some(child);
     }
 
-    // The child that comes next.
+    // Returns the next child, if there is one.
     fn next_child(&self) -> Option<NodeId>
         ensures next { IsLeast (is_named_before self.now.nodes) (children_left self.now) result }
         ensures nodes { AreNodes self.now.nodes }
@@ -94,7 +94,7 @@ impl Cursor<'_> {
         self.tree.next_child(self.parent, self.last_name())
     }
 
-    // The name of the last child that was given.
+    // Returns the name of the child that was returned last, if any.
     fn last_name(&self) -> Option<&Name>
         ensures { option_copied result ≡ option_and_then (name_at self.now.nodes) self.now.last }
     {

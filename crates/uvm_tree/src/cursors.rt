@@ -1,4 +1,4 @@
-//! Which node of a tree comes next in an order of their paths.
+//! The next node of a tree in one of the two orders of paths.
 
 ghost use Rattle.std.specs.Prelude.{◌≡◌, ◌<◌, length, Some, None};
 ghost use Rattle.uvm_glob.specs.Orders.{down_cmp, up_cmp, order_of};
@@ -12,10 +12,10 @@ use uvm_glob::Direction;
 use uvm_glob::laws::orders_are_total;
 
 impl Tree {
-    /// The node that comes next after a given one in Down, or the first where none is given: name by name in byte order, and
-    /// a parent before its children. The top is none of them. None after the last, and where there is no such node as the
-    /// given one. Top-down phases go in this order (IEEE 1800.2-2020, Clause 9). Takes no memory; the time is that of a few
-    /// comparisons of names for each node above the given one.
+    /// Returns the next node after `after` in top-down order, or the first node if `after` is `None`. This order puts parents before their
+    /// children and sorts siblings by the bytes of their names. Top-down phases use it (IEEE 1800.2-2020, Clause 9). The root is never
+    /// returned. Returns `None` after the last node, and if the tree has no node `after`. Cost: O(log n) comparisons of names for each
+    /// node above `after`, for n nodes; no allocation.
     pub fn next_down(&self, after: Option<NodeId>) -> Option<NodeId>
         ensures next { IsLeast (is_before down_cmp self.now.nodes) (nodes_after down_cmp self.now.nodes after) result }
         ensures nodes { AreNodes self.now.nodes }
@@ -26,8 +26,9 @@ impl Tree {
         }
     }
 
-    /// The node that comes next after a given one in Up, as `next_down` does in Down: children come before their parent.
-    /// Bottom-up phases go in this order (IEEE 1800.2-2020, Clause 9).
+    /// Returns the next node after `after` in bottom-up order, or the first node if `after` is `None`. This order puts children before
+    /// their parent and sorts siblings by the bytes of their names. Bottom-up phases use it (IEEE 1800.2-2020, Clause 9). The root is
+    /// never returned. Returns `None` after the last node, and if the tree has no node `after`.
     pub fn next_up(&self, after: Option<NodeId>) -> Option<NodeId>
         ensures next { IsLeast (is_before up_cmp self.now.nodes) (nodes_after up_cmp self.now.nodes after) result }
         ensures nodes { AreNodes self.now.nodes }
@@ -38,8 +39,8 @@ impl Tree {
         }
     }
 
-    /// Whether a node comes before another in a direction, by their paths. A number of no node counts as the top's. Takes no
-    /// memory.
+    /// Returns whether the path of `node` precedes that of `other` in this direction. A number without a node counts as the root's.
+    /// Allocates no memory.
     pub fn is_before(&self, direction: Direction, node: NodeId, other: NodeId) -> bool
         ensures { result ≡ is_before (order_of direction) self.now.nodes node other }
     {
@@ -47,7 +48,7 @@ impl Tree {
         path.cmp_in(direction, other).is_lt()
     }
 
-    // The node that comes next after one in Down: its first child, or what comes beside it.
+    // Returns the next node after `node` in top-down order: its first child, or otherwise the next node that is not below it.
     fn next_down_after(&self, node: NodeId) -> Option<NodeId>
         ensures next { IsLeast (is_before down_cmp self.now.nodes) (nodes_after down_cmp self.now.nodes (Some node)) result }
         ensures nodes { AreNodes self.now.nodes }
@@ -60,7 +61,7 @@ impl Tree {
         }
     }
 
-    // The first node in Down: the first child of the top.
+    // Returns the first node in top-down order: the first child of the root.
     fn first_down(&self) -> Option<NodeId>
         ensures next { IsLeast (is_before down_cmp self.now.nodes) (nodes_after down_cmp self.now.nodes None) result }
         ensures nodes { AreNodes self.now.nodes }
@@ -69,7 +70,7 @@ impl Tree {
         self.next_child(NodeId::TOP, None)
     }
 
-    // The next in Down of the nodes that do not stand below a node: the next child of its parent, or of the nearest node above that
+    // Returns the next node in top-down order that is not below `node`: the next sibling of `node`, or of the nearest node above it that
     // has one.
     fn next_beside(&self, node: NodeId) -> Option<NodeId>
         ensures { IsBeside self.now.nodes node result }
@@ -82,7 +83,7 @@ impl Tree {
         }
     }
 
-    // The node that comes next after one in Up: the first below the next child of its parent, or the parent.
+    // Returns the next node after `node` in bottom-up order: the first below its next sibling, or its parent if it has no next sibling.
     fn next_up_after(&self, node: NodeId) -> Option<NodeId>
         ensures next { IsLeast (is_before up_cmp self.now.nodes) (nodes_after up_cmp self.now.nodes (Some node)) result }
         ensures nodes { AreNodes self.now.nodes }
@@ -96,7 +97,7 @@ impl Tree {
         }
     }
 
-    // The first node in Up.
+    // Returns the first node in bottom-up order.
     fn first_up(&self) -> Option<NodeId>
         ensures next { IsLeast (is_before up_cmp self.now.nodes) (nodes_after up_cmp self.now.nodes None) result }
         ensures nodes { AreNodes self.now.nodes }
@@ -106,7 +107,7 @@ impl Tree {
         Some(self.first_below(child))
     }
 
-    // The first in Up of a node and those below it.
+    // Returns the first in bottom-up order of `node` and the nodes below it.
     fn first_below(&self, node: NodeId) -> NodeId
         requires { node < length self.now.nodes }
         ensures { IsFirstBelow self.now.nodes node result }

@@ -9,7 +9,7 @@ use crate::nodes::{KeptNode, NodeId};
 use std::cmp::Ordering;
 use uvm_glob::Name;
 
-// The nodes of a tree: the top, the others in the order in which they were added, and these family by family.
+// The nodes of a tree: the root, the others in the order in which they were added, and these others sorted by parent and name.
 #[derive(Clone, Copy)]
 pub(crate) struct Families<'a> {
     pub top: &'a KeptNode,
@@ -18,7 +18,7 @@ pub(crate) struct Families<'a> {
 }
 
 impl<'a> Families<'a> {
-    // The child of a node whose name comes next after a name, or the first child where none is given.
+    // Returns the child of `parent` whose name is the next after `after`, or the first child if `after` is `None`.
     pub(crate) fn next_child(&self, parent: NodeId, after: Option<&Name>) -> Option<NodeId>
         requires nodes { AreNodes (self.now.top.now ∷ self.now.nodes.now) }
         requires families { AreFamilies (self.now.top.now ∷ self.now.nodes.now) self.now.order.now }
@@ -27,7 +27,7 @@ impl<'a> Families<'a> {
         self.child_in(parent, self.count_passed(parent, after))
     }
 
-    // The child of a node that has a name.
+    // Returns the child of `parent` with this name, if there is one.
     pub(crate) fn child(&self, parent: NodeId, name: &[u8]) -> Option<NodeId>
         requires nodes { AreNodes (self.now.top.now ∷ self.now.nodes.now) }
         requires families { AreFamilies (self.now.top.now ∷ self.now.nodes.now) self.now.order.now }
@@ -42,7 +42,7 @@ impl<'a> Families<'a> {
         }
     }
 
-    // How many nodes stand in front of a place.
+    // Returns the number of nodes whose place precedes (`parent`, `name`).
     pub(crate) fn count_in_front(&self, parent: NodeId, name: &[u8]) -> usize
         requires { AreFamilies (self.now.top.now ∷ self.now.nodes.now) self.now.order.now }
         ensures within { result ≤ length self.now.order.now }
@@ -52,7 +52,7 @@ impl<'a> Families<'a> {
             .partition_point(|node| self.compare(*node, parent, name).is_lt())
     }
 
-    // How many stand there or in front of it.
+    // Returns the number of nodes whose place precedes or equals (`parent`, `name`).
     fn count_upto(&self, parent: NodeId, name: &[u8]) -> usize
         requires { AreFamilies (self.now.top.now ∷ self.now.nodes.now) self.now.order.now }
         ensures { IsPartitionPoint (λ n. is_upto (self.now.top.now ∷ self.now.nodes.now) (parent, name.now) n ≡ true) (λ n. is_upto (self.now.top.now ∷ self.now.nodes.now) (parent, name.now) n ≡ false) self.now.order.now result }
@@ -61,7 +61,8 @@ impl<'a> Families<'a> {
             .partition_point(|node| !self.compare(*node, parent, name).is_gt())
     }
 
-    // How many stand in front of the children that come after a name, or of all children where none is given.
+    // Returns the number of nodes in `order` that precede the children named after `after`, or all children of `parent` if `after` is
+    // `None`.
     fn count_passed(&self, parent: NodeId, after: Option<&Name>) -> usize
         requires { AreFamilies (self.now.top.now ∷ self.now.nodes.now) self.now.order.now }
         ensures { IsPartitionPoint (λ n. is_passed (self.now.top.now ∷ self.now.nodes.now) parent (option_copied after.entry) n ≡ true) (λ n. is_passed (self.now.top.now ∷ self.now.nodes.now) parent (option_copied after.entry) n ≡ false) self.now.order.now result }
@@ -72,7 +73,7 @@ impl<'a> Families<'a> {
         }
     }
 
-    // The node at a place of the order, where it is a child of a node.
+    // Returns the node at index `place` of `order` if it is a child of `parent`.
     fn child_in(&self, parent: NodeId, place: usize) -> Option<NodeId>
         ensures { result ≡ child_in (self.now.top.now ∷ self.now.nodes.now) self.now.order.now parent place }
     {
@@ -84,7 +85,7 @@ impl<'a> Families<'a> {
         }
     }
 
-    // How the place of a node stands to another.
+    // Compares the place of a node with (`parent`, `name`).
     fn compare(&self, node: NodeId, parent: NodeId, name: &[u8]) -> Ordering
         ensures { result ≡ place_cmp (place_at (self.now.top.now ∷ self.now.nodes.now) node) (parent, name.now) }
     {
@@ -92,7 +93,8 @@ impl<'a> Families<'a> {
         above.number().cmp(&parent.number()).then(own.cmp(name))
     }
 
-    // The place of a node: the number of its parent, and its name. That of the top is below itself, and has no name.
+    // Returns the place of a node: the number of its parent, and its name. The root, and a number without a node, have the place of an
+    // empty name under the root.
     fn place(&self, node: NodeId) -> (NodeId, &'a [u8])
         ensures { (result.0, result.1.now) ≡ place_at (self.now.top.now ∷ self.now.nodes.now) node }
     {
@@ -105,7 +107,7 @@ impl<'a> Families<'a> {
         }
     }
 
-    // The node of a number.
+    // Returns the node with this number, if there is one.
     fn node(&self, node: NodeId) -> Option<&'a KeptNode>
         ensures { option_copied result ≡ node_at (self.now.top.now ∷ self.now.nodes.now) node }
     {

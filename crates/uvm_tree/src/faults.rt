@@ -1,21 +1,21 @@
-//! Why a node is not added.
+//! The errors of adding a node.
 
 use std::alloc::{AllocError, AllocFailed};
 use std::error::Error;
 use std::fmt;
 
-/// Why a node is not added, in the order in which it is looked for. A call that is refused adds nothing.
+/// The reasons why a node is not added, in the order in which they are checked. An error adds nothing.
 #[derive(Clone, Copy, Debug, PartialEq, Eq)]
 pub enum TreeFault {
-    /// The tree has no node of the parent's number.
+    /// The tree has no node with the parent's number.
     NoParent,
-    /// The parent has a child of that name already.
+    /// The parent already has a child with that name.
     NameTaken,
     /// The path would have more names or bytes than `Path` allows.
     TooDeep,
-    /// There are `Tree::MAX_NODES` nodes besides the top, and one more would be next.
+    /// The tree already has `Tree::MAX_NODES` nodes, not counting the root.
     Full,
-    /// Memory was refused.
+    /// An allocation failed.
     Memory,
 }
 

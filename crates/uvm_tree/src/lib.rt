@@ -1,4 +1,4 @@
-//! The tree of a testbench: its components, and what belongs to them, under a top (IEEE 1800.2-2020, Clause 13).
+//! The tree of a testbench: its components and the nodes that belong to them, under a root (IEEE 1800.2-2020, Clause 13).
 #![tactic(auto)]
 
 mod children;

@@ -1,29 +1,29 @@
-//! What a node is.
+//! The nodes of a tree, their numbers and their kinds.
 
 ghost use Rattle.std.specs.Prelude.{◌≡◌};
 
 use std::marker::Model;
 use uvm_glob::{Name, Path};
 
-/// What stands at a node.
+/// The kind of a node.
 #[derive(Clone, Copy, PartialEq, Eq)]
 pub enum NodeKind {
-    /// A component; the top is one.
+    /// A component. The root is one.
     Component,
-    /// A sequencer, which lets sequences have their turn.
+    /// A sequencer, which grants the requests of sequences.
     Sequencer,
-    /// A queue of what is put into it.
+    /// A FIFO, which queues the items that are put into it.
     Fifo,
-    /// A port, which calls what it is connected to.
+    /// A port, which forwards calls to what it is connected to.
     Port,
-    /// An export, which hands calls on to what it is connected to.
+    /// An export, which forwards calls to what it is connected to.
     Export,
-    /// An implementation, at which calls end.
+    /// An implementation (imp), at which calls end.
     Imp,
 }
 
-/// A node of a tree: 0 for the top, then by the order in which nodes were added. A tree gives these numbers; one of another
-/// tree stands for the node of that number.
+/// The number of a node of a tree: 0 is the root, the others follow in the order in which they were added. A tree issues these numbers;
+/// the number of another tree's node refers to this tree's node of that number.
 #[derive(Clone, Copy, PartialEq, Eq, Hash)]
 pub struct NodeId {
     number: u16,
@@ -40,7 +40,7 @@ impl Model for NodeId {
 }
 
 impl NodeId {
-    /// The top.
+    /// The number of the root.
     pub const TOP: NodeId = NodeId { number: 0 };
 
     pub(crate) fn new(number: u16) -> NodeId
@@ -56,7 +56,7 @@ impl NodeId {
     }
 }
 
-// What is kept of a node: its parent and its name under it, which the top alone has not, its path, and what stands there.
+// The data of a node: its parent and its name under that parent (both absent for the root), its path, and its kind.
 #[derive(Drop)]
 pub(crate) struct KeptNode {
     pub under: Option<(NodeId, Name)>,

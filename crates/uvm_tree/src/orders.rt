@@ -11,7 +11,7 @@ use std::alloc::{AllocError, Global};
 use uvm_glob::laws::orders_are_total;
 
 impl Tree {
-    /// All nodes besides the top, in Down. Errors: out of memory; the time is that of a sort by comparisons of paths.
+    /// Returns all nodes except the root, in top-down order. Errors: out of memory. Cost: one sort by comparisons of paths.
     pub fn path_order(&self, alloc: Global) -> Result<Vec<NodeId>, AllocError>
         ensures { IfOk result (λ order. order.items ≡ path_order self.now.nodes) }
     {
@@ -21,7 +21,7 @@ impl Tree {
         Ok(order)
     }
 
-    // All nodes besides the top, in the order in which they were added.
+    // Returns all nodes except the root, in the order in which they were added.
     fn numbers(&self, alloc: Global) -> Result<Vec<NodeId>, AllocError>
         ensures numbers { IfOk result (λ numbers. numbers.items ≡ numbers_of self.now.nodes) }
         ensures nodes { AreNodes self.now.nodes }

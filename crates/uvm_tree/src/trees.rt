@@ -16,19 +16,19 @@ use std::alloc::{AllocError, Global};
 use std::marker::Model;
 use uvm_glob::{ChildRoom, Name, Path};
 
-/// A tree of nodes under a top. Contracts see the nodes by their numbers, the top first, and beside them the parent for
-/// whose next child there is room. `parent`, `next_down` and `next_up` tell them that parents stand before their children,
-/// that a path is the parent's with the name, and that no two nodes have one path.
+/// A tree of nodes under a root. Contracts see the nodes in the order of their numbers, the root first, and the parent for whose next
+/// child capacity is reserved. The contracts of `parent`, `next_down` and `next_up` state `AreNodes`: parents precede their children, a
+/// path is the parent's path with the name, and no two nodes have the same path.
 pub struct Tree {
     top: KeptNode,
-    // The nodes besides the top, in the order in which they were added.
+    // The nodes except the root, in the order in which they were added.
     nodes: Vec<KeptNode>,
-    // The same nodes, the children of one node together, in byte order of their names.
+    // The numbers of the same nodes, sorted by the number of the parent, then by the bytes of the name.
     families: Vec<NodeId>,
     room: Option<Room>,
 }
 
-// (By hand, so that crates above prove no drop of what it holds.)
+// (Written by hand, so that the crates that use a tree need no proof that its fields are dropped.)
 impl Drop for Tree {
     fn drop(self) {
         let Tree {
@@ -40,7 +40,7 @@ impl Drop for Tree {
     }
 }
 
-// Room for a child, in the two lists of nodes too.
+// The capacity that is reserved for one child of `parent`: its path, and one entry in each of the two lists of nodes.
 #[derive(Drop)]
 struct Room {
     parent: NodeId,
@@ -60,10 +60,10 @@ impl Model for Tree {
 }
 
 impl Tree {
-    /// The most nodes besides the top.
+    /// The largest number of nodes, not counting the root.
     pub const MAX_NODES: usize = 4096;
 
-    /// The top alone.
+    /// Creates a tree that has only the root.
     pub fn new(alloc: Global) -> Tree
         ensures { result ≡ record { nodes = top ∷ []; spare = None } }
     {
@@ -79,9 +79,9 @@ impl Tree {
         }
     }
 
-    /// Makes room for the next child of a parent, in place of any other's: its `add` then takes no memory. The error is want of
-    /// memory, which does not come where there is that room, and where there is no such node; it changes no node and leaves the
-    /// room as it was.
+    /// Reserves capacity for the next child of `parent`, in place of a reservation for another parent. The next `add` under `parent` then
+    /// allocates no memory. Does nothing if that capacity is already reserved, or if there is no such node. Errors: out of memory. An
+    /// error changes no node and keeps the earlier reservation.
     pub fn reserve(&mut self, parent: NodeId) -> Result<(), AllocError>
         ensures nodes { self.new.nodes ≡ self.old.nodes }
         ensures spare { OnOk result (IsSome (node_at self.old.nodes parent) → self.new.spare ≡ Some parent) }
@@ -102,8 +102,9 @@ impl Tree {
         Ok(())
     }
 
-    /// Adds a node under a parent: the first of `TreeFault` that holds, if one does. Takes no memory where there is room for a
-    /// child of that parent. A refusal leaves the room as it was, and what is added takes it, whosever it was.
+    /// Adds a node under `parent` and returns its number. Errors, in this order: `NoParent`, `NameTaken`, `TooDeep`, `Full`; out of memory
+    /// (`Memory`), only if no capacity was reserved for a child of `parent`. An error adds nothing and keeps the reservation. Success uses
+    /// up the reservation, also one for another parent.
     #[tactic(auto, unfolding(crate::specs::Nodes::add_fault))]
     pub fn add(&mut self, parent: NodeId, name: Name, kind: NodeKind) -> Result<NodeId, TreeFault>
         ensures ok { IfOk result (λ id. (add_fault self.old.nodes parent name ≡ None) × (id ≡ length self.old.nodes)) }
@@ -140,7 +141,7 @@ impl Tree {
         Ok(node)
     }
 
-    /// Why no node of that name can be added under a parent, if so; memory aside. Takes no memory.
+    /// Returns the error with which `add` would reject this parent and name, apart from `Memory`, or `None`. Allocates no memory.
     #[tactic(auto, unfolding(crate::specs::Nodes::add_fault))]
     pub fn fault(&self, parent: NodeId, name: &Name) -> Option<TreeFault>
         ensures { result ≡ add_fault self.now.nodes parent name.now }
@@ -159,16 +160,16 @@ impl Tree {
         }
     }
 
-    /// The node at a path, the top at its own; none where no node has that path. Takes no memory; the time is that of a few comparisons
-    /// of names for each name of the path.
+    /// Returns the node with this path, or `None` if there is none. The empty path is the root's. Cost: O(log n) comparisons of names for
+    /// each name of the path, for n nodes; no allocation.
     pub fn find(&self, path: &Path) -> Option<NodeId>
         ensures { result ≡ number_at self.now.nodes path.now }
     {
         self.find_below(NodeId::TOP, path)
     }
 
-    /// The node at a path that goes on from a node, as `find` finds one; none where no node has that path. A number of no node counts
-    /// as the top's. Where one is found the whole path has no fault.
+    /// Returns the node whose path is that of `node` followed by `path`, or `None` if there is none. A number without a node counts as the
+    /// root's. If a node is found, its whole path is valid (`path_fault` is `None`). The cost is that of `find`.
     pub fn find_below(&self, node: NodeId, path: &Path) -> Option<NodeId>
         ensures node { result ≡ number_at self.now.nodes (path_at self.now.nodes node ++ path.now) }
         ensures sound { OnSome result (path_fault (path_at self.now.nodes node ++ path.now) ≡ None) }
@@ -182,8 +183,8 @@ impl Tree {
         self.descend(node, text)
     }
 
-    /// The child of a name below a node; none where it has no such child. A number of no node counts as the top's. Where one is found
-    /// its path has no fault. Takes no memory.
+    /// Returns the child of `node` with this name, or `None` if there is none. A number without a node counts as the root's. If a child is
+    /// found, its whole path is valid (`path_fault` is `None`). Allocates no memory.
     pub fn child(&self, node: NodeId, name: &Name) -> Option<NodeId>
         ensures child { result ≡ number_at self.now.nodes (path_at self.now.nodes node ++ name.now ∷ []) }
         ensures sound { OnSome result (path_fault (path_at self.now.nodes node ++ name.now ∷ []) ≡ None) }
@@ -191,7 +192,7 @@ impl Tree {
         self.child_of(self.node_or_top(node), name.as_bytes())
     }
 
-    /// The path of a node; none where there is no such node.
+    /// Returns the path of a node, or `None` if there is no such node.
     pub fn path(&self, id: NodeId) -> Option<&Path>
         ensures { option_copied result ≡ option_map (λ node. node.path) (node_at self.now.nodes id) }
     {
@@ -201,7 +202,7 @@ impl Tree {
         }
     }
 
-    /// What stands at a node; none where there is no such node.
+    /// Returns the kind of a node, or `None` if there is no such node.
     pub fn kind(&self, id: NodeId) -> Option<NodeKind>
         ensures { result ≡ option_map (λ node. node.kind) (node_at self.now.nodes id) }
     {
@@ -211,7 +212,7 @@ impl Tree {
         }
     }
 
-    /// The parent of a node; none for the top, and where there is no such node.
+    /// Returns the parent of a node, or `None` for the root and if there is no such node.
     pub fn parent(&self, id: NodeId) -> Option<NodeId>
         ensures parent { result ≡ option_and_then parent_of (node_at self.now.nodes id) }
         ensures nodes { AreNodes self.now.nodes }
@@ -225,14 +226,15 @@ impl Tree {
         }
     }
 
-    /// The parent of a node, and the node's name under it; none for the top, and where there is no such node. Takes no memory.
+    /// Returns the parent of a node and the node's name under it, or `None` for the root and if there is no such node. Allocates no
+    /// memory.
     pub fn under(&self, id: NodeId) -> Option<(NodeId, Name)>
         ensures { result ≡ under_at self.now.nodes id }
     {
         self.node(id)?.under
     }
 
-    // Whether there is room for the next child of a parent.
+    // Returns whether capacity for the next child of `parent` is reserved.
     fn has_room_for(&self, parent: NodeId) -> bool
         ensures { IsTrue result ↔ (self.now.spare ≡ Some parent) }
     {
@@ -242,7 +244,7 @@ impl Tree {
         }
     }
 
-    // The path of a node, or that of the top where there is no such node.
+    // Returns the path of a node, or the root's path if there is no such node.
     pub(crate) fn path_or_top(&self, id: NodeId) -> &Path
         ensures { result.now ≡ path_at self.now.nodes id }
     {
@@ -252,7 +254,7 @@ impl Tree {
         }
     }
 
-    // The number of nodes besides the top.
+    // Returns the number of nodes, not counting the root.
     pub(crate) fn number_of_nodes(&self) -> usize
         ensures number { result ≡ length self.now.nodes - 1 }
         ensures limit { result ≤ most_nodes }
@@ -261,7 +263,7 @@ impl Tree {
         self.nodes.len()
     }
 
-    // The node of a number.
+    // Returns the node with this number, if there is one.
     pub(crate) fn node(&self, id: NodeId) -> Option<&KeptNode>
         ensures node { option_copied result ≡ node_at self.now.nodes id }
         ensures nodes { AreNodes self.now.nodes }
@@ -273,7 +275,7 @@ impl Tree {
         }
     }
 
-    // The name of a node under its parent; none for the top, and where there is no such node.
+    // Returns the name of a node under its parent, or `None` for the root and if there is no such node.
     pub(crate) fn name(&self, id: NodeId) -> Option<&Name>
         ensures { option_copied result ≡ name_at self.now.nodes id }
     {
@@ -283,7 +285,7 @@ impl Tree {
         }
     }
 
-    // The node, or the top where there is no such node.
+    // Returns this node, or the root if there is no such node.
     fn node_or_top(&self, node: NodeId) -> NodeId
         ensures inside { result < length self.now.nodes }
         ensures path { path_at self.now.nodes result ≡ path_at self.now.nodes node }
@@ -297,7 +299,7 @@ impl Tree {
         }
     }
 
-    // The child of a name.
+    // Returns the child of `parent` with this name, if there is one.
     fn child_of(&self, parent: NodeId, name: &[u8]) -> Option<NodeId>
         requires { parent < length self.now.nodes }
         ensures child { result ≡ number_at self.now.nodes (path_at self.now.nodes parent ++ name.now ∷ []) }
@@ -306,7 +308,7 @@ impl Tree {
         self.families().child(parent, name)
     }
 
-    // The node to which the names of a text lead from a node.
+    // Returns the node that is reached from `node` through the names in `text`, which are separated by dots.
     fn descend(&self, node: NodeId, text: &[u8]) -> Option<NodeId>
         requires { node < length self.now.nodes }
         ensures node { result ≡ number_at self.now.nodes (path_at self.now.nodes node ++ between_dots text.now) }
@@ -320,14 +322,14 @@ impl Tree {
         Some(node)
     }
 
-    // Whether a parent has a child of that name.
+    // Returns whether `parent` has a child with this name.
     fn has_child(&self, parent: NodeId, name: &Name) -> bool
         ensures { result ≡ list_any (is_child parent name.now) self.now.nodes }
     {
         self.families().child(parent, name.as_bytes()).is_some()
     }
 
-    // The child of a node whose name comes next after a name, or the first child where none is given.
+    // Returns the child of `parent` whose name is the next after `after`, or the first child if `after` is `None`.
     pub(crate) fn next_child(&self, parent: NodeId, after: Option<&Name>) -> Option<NodeId>
         ensures next { IsNextChild self.now.nodes parent (option_copied after.entry) result }
         ensures nodes { AreNodes self.now.nodes }
@@ -335,7 +337,7 @@ impl Tree {
         self.families().next_child(parent, after)
     }
 
-    // The nodes, and the children of each in order.
+    // Returns the nodes together with their order by parent and name.
     fn families(&self) -> Families<'_>
         ensures nodes { result.top.now ∷ result.nodes.now ≡ self.now.nodes }
         ensures order { AreFamilies (result.top.now ∷ result.nodes.now) result.order.now }
@@ -349,7 +351,7 @@ impl Tree {
     }
 }
 
-// Where a child of a name is to stand among the nodes family by family.
+// Returns the index in `order` at which a child of `parent` with this name is to be inserted.
 fn place_of(
     top: &KeptNode,
     nodes: &[KeptNode],
@@ -365,7 +367,7 @@ fn place_of(
     families.count_in_front(parent, name.as_bytes())
 }
 
-// Adds a node, for which there is room.
+// Appends a node, for which capacity is reserved, and returns its number.
 fn push(nodes: &mut Vec<KeptNode>, node: KeptNode) -> NodeId
     requires few { length nodes.old.items < most_nodes }
     requires room { length nodes.old.items < vec_capacity nodes.old }
@@ -379,7 +381,7 @@ fn push(nodes: &mut Vec<KeptNode>, node: KeptNode) -> NodeId
     NodeId::new(number as u16)
 }
 
-// Puts a node at a place of its family, for which there is room.
+// Inserts a node at an index of the list of families, for which capacity is reserved.
 fn insert(families: &mut Vec<NodeId>, place: usize, node: NodeId)
     requires within { place ≤ length families.old.items }
     requires room { length families.old.items < vec_capacity families.old }
@@ -391,7 +393,7 @@ fn insert(families: &mut Vec<NodeId>, place: usize, node: NodeId)
 }
 
 impl Room {
-    // The path of a child that may be added.
+    // Returns the path of the child with this name, using up the reserved capacity.
     fn child(self, name: &Name) -> Path
         requires { path_fault (self.path ++ name.now ∷ []) ≡ None }
         ensures { result ≡ self.path ++ name.now ∷ [] }

@@ -1,25 +1,6 @@
 -- The end of a phase.
-use Rattle.std.proofs.Common.{◌≡◌, ◌<◌, ◌-◌, ℕ, Bool, true, false, ◌||◌, List, [], ◌∷◌, length, Contains, Option, Some, None, is_some, unwrap_or, refl, sym, subst, arith, if◌then◌else◌}
-use Rattle.std.specs.List.{list_any}
-use Rattle.std.specs.Option.{ForSome}
-use Rattle.std.proofs.lemmas.Bool.Decides.{nat_tests}
-use Rattle.uvm_phase.specs.declared.phases.Phase.{Phase}
-use Rattle.uvm_phase.specs.declared.phases.Phase.TheVariants.{Run}
-use Rattle.uvm_phase.specs.Phases.{is_runtime, same_phase}
-use Rattle.uvm_tree.specs.Cursors.{numbers_of}
+use Rattle.world_entries.proofs.Common.{◌≡◌, ◌<◌, ◌-◌, ℕ, Bool, true, false, ◌||◌, List, [], ◌∷◌, length, Contains, Option, Some, None, is_some, unwrap_or, refl, sym, subst, arith, if◌then◌else◌, list_any, ForSome, nat_tests, Phase, Run, is_runtime, same_phase, numbers_of, AreInPathOrder, path_order, WiringValue, is_closed, Entry, ScriptValue, RunStage, Before, During, After, Ended, in_progress, running, stage_of, TaskPhasesFollowConnect, EachIsNext, ends_connect, IsConnecting, permutation-contains, range-contains}
 use Rattle.uvm_tree.specs.Nodes.{Node}
-use Rattle.uvm_tree.specs.Sorted.{AreInPathOrder, path_order}
-use Rattle.uvm_tlm.specs.Wirings.{WiringValue, is_closed}
-use Rattle.uvm_object.specs.declared.entries.Entry.{Entry}
-use Rattle.bench_script.specs.Scripts.{ScriptValue}
-use Rattle.bench_history.specs.declared.stages.Stage.{Stage}
-use Rattle.bench_history.specs.declared.stages.Stage.TheVariants.{Before, During, After, Ended}
-use Rattle.bench_history.specs.History.{in_progress, running, stage_of}
-use Rattle.bench_history.specs.Laws.{TaskPhasesFollowConnect}
-use Rattle.bench_history.specs.Next.{EachIsNext}
-use Rattle.bench_history.specs.Wires.{ends_connect}
-use Rattle.world_wiring.specs.Connectings.{IsConnecting}
-use Rattle.world_wiring.proofs.Connected.{permutation-contains, range-contains}
 
 -- each node below the top stands in the path order
 pub order-holds : (nodes : List Node) → AreInPathOrder nodes (path_order nodes) → (n : ℕ) → 0 < n → n < length nodes → Contains (path_order nodes) n
@@ -33,7 +14,7 @@ pub or-true : (a b : Bool) → b ≡ true → a || b ≡ true
 or-true true b e = refl
 or-true false b e = e
 
-runs-going : (stage : Stage) (phase : Phase) → running stage ≡ Some phase → list_any (same_phase phase) (in_progress stage) ≡ true
+runs-going : (stage : RunStage) (phase : Phase) → running stage ≡ Some phase → list_any (same_phase phase) (in_progress stage) ≡ true
 runs-going Before phase runs = cc
 runs-going Ended phase runs = cc
 runs-going (During other) phase runs = let same : other ≡ phase = cc in subst (λ (p : Phase). list_any (same_phase phase) (in_progress (During p)) ≡ true) (sym same) (by (is_runtime phase))

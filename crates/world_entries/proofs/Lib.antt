@@ -1,3 +1,4 @@
+pub mod Common
+pub mod Ended
 pub mod Granted
 pub mod Heard
-pub mod Ended

@@ -1,2 +1,4 @@
 pub mod Coming
-pub mod Marks
+pub mod KernelEntries
+pub mod Rooms
+pub mod StoredActs

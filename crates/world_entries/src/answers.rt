@@ -1,4 +1,4 @@
-//! Answers.
+//! Records the calls that objects receive, and their answers.
 
 ghost use Rattle.std.specs.Prelude.{◌≡◌, List, false, length, Some, None, IfSome};
 ghost use Rattle.uvm_acts.specs.declared.acts.Act.{Act};
@@ -6,18 +6,18 @@ ghost use Rattle.uvm_acts.specs.declared.acts.Call as calls;
 ghost use Rattle.uvm_object.specs.declared.entries.Entry.TheVariants.{Heard};
 ghost use Rattle.bench_history.specs.Cases.{Answer};
 ghost use Rattle.bench_history.specs.History.{phase_heard};
-ghost use Rattle.world_services.specs.Rounds.{IsHeardInRounds};
-ghost use Rattle.world_entries.specs.Coming.{GoesOnWith, IsDueNext};
+ghost use Rattle.world_services.specs.PhaseCursors.{IsHeardInPhaseCursors};
+ghost use Rattle.world_entries.specs.Coming.{PreservesMatch, IsEntryContext};
 
-use bench_history::{Owner, laws};
+use bench_history::{EventTarget, laws};
 use uvm_object::{Call, Origin, Who};
 use uvm_phase::{Phase, laws as agenda};
 use uvm_tree::{NodeId, laws as trees};
-use world_services::rounds::Rounds;
-use world_services::services::{LastAnswer, Services};
+use world_services::phase_cursors::PhaseCursors;
+use world_services::services::{AnswerCursor, Services};
 
-/// Keeps that somebody had a call, and answered with so many acts, in the entry at a place. The call was due with an origin, or is that of a
-/// phase in progress.
+/// Records that `who` received a call and answered with `count` actions, in the entry at `place`. The call was scheduled with `origin`;
+/// without an origin it is the callback of an active phase.
 pub fn hear(
     services: &mut Services,
     place: u32,
@@ -26,8 +26,8 @@ pub fn hear(
     origin: Option<Origin>,
     count: usize,
 )
-    requires { IsDueNext (λ _. Answer who call.now origin) place services.old }
-    ensures { (acts : List Act) → length acts ≡ count → GoesOnWith (λ _. Answer who call.now origin) (Heard who origin call.now acts) place services.old services.new }
+    requires { IsEntryContext (λ _. Answer who call.now origin) place services.old }
+    ensures { (acts : List Act) → length acts ≡ count → PreservesMatch (λ _. Answer who call.now origin) (Heard who origin call.now acts) place services.old services.new }
 {
     match origin {
         None => hear_in_turn(services, place, who, call, count),
@@ -35,38 +35,38 @@ pub fn hear(
     }
 }
 
-// Keeps that somebody had the call of a phase in progress, and answered with so many acts, in the entry at a place.
+// Records that `who` received the callback of an active phase and answered with `count` actions, in the entry at `place`.
 fn hear_in_turn(services: &mut Services, place: u32, who: Who, call: &Call, count: usize)
-    ensures { (acts : List Act) → length acts ≡ count → GoesOnWith (λ _. Answer who call.now None) (Heard who None call.now acts) place services.old services.new }
+    ensures { (acts : List Act) → length acts ≡ count → PreservesMatch (λ _. Answer who call.now None) (Heard who None call.now acts) place services.old services.new }
 {
-    // Who is asked is there, and stands at a node: a sequence at its home.
+    // The receiver of the call is active, and its node exists: for a sequence that is its sequencer.
     laws::asked_are_there();
     laws::homes_are_nodes();
-    // It is the first in order of the components that wait.
+    // The receiver is the first of the components that wait, in the order of the phase.
     laws::calls_go_in_turn();
     laws::nodes_are_a_tree();
     trees::nodes_are_ordered();
     trees::least_is_least();
-    // Nothing is granted anywhere.
+    // No request can be granted.
     laws::answers_are_settled();
     laws::wiring_stays();
     let phase = phase_called(call);
-    hear_call(&mut services.turns, phase, who.node());
-    services.reporting.newest = None;
-    services.contest.close();
-    services.answer = last_answer(place, who, phase, count);
+    hear_call(&mut services.phase_cursors, phase, who.node());
+    services.report_state.newest = None;
+    services.grant_index.close();
+    services.answer = answer_cursor(place, who, phase, count);
 }
 
-// Keeps that the component whose turn it was had its call, if that was one of a phase.
-fn hear_call(turns: &mut Rounds, phase: Option<Phase>, node: NodeId)
-    ensures { IfSome phase (λ phase. IsHeardInRounds phase node turns.old turns.new) }
+// Records that the next component of a phase received its callback; does nothing without a phase.
+fn hear_call(phase_cursors: &mut PhaseCursors, phase: Option<Phase>, node: NodeId)
+    ensures { IfSome phase (λ phase. IsHeardInPhaseCursors phase node phase_cursors.old phase_cursors.new) }
 {
     if let Some(phase) = phase {
-        turns.hear(phase, node);
+        phase_cursors.hear(phase, node);
     }
 }
 
-// The phase to which a call belongs that was not due: the one whose call it is.
+// Returns the phase of a call that was not scheduled: the phase whose callback it is.
 fn phase_called(call: &Call) -> Option<Phase>
     ensures { result ≡ phase_heard call.now None }
 {
@@ -76,35 +76,35 @@ fn phase_called(call: &Call) -> Option<Phase>
     }
 }
 
-// Keeps that somebody had a call that was due, and answered with so many acts, in the entry at a place. These belong to the phase of the
-// call.
+// Records that `who` received a scheduled call and answered with `count` actions, in the entry at `place`. The actions belong to the phase
+// of the call.
 fn hear_due(services: &mut Services, place: u32, who: Who, origin: Origin, count: usize)
-    requires { (call : calls.Call) × IsDueNext (λ _. Answer who call (Some origin)) place services.old }
-    ensures { (call : calls.Call) (acts : List Act) → length acts ≡ count → GoesOnWith (λ _. Answer who call (Some origin)) (Heard who (Some origin) call acts) place services.old services.new }
+    requires { (call : calls.Call) × IsEntryContext (λ _. Answer who call (Some origin)) place services.old }
+    ensures { (call : calls.Call) (acts : List Act) → length acts ≡ count → PreservesMatch (λ _. Answer who call (Some origin)) (Heard who (Some origin) call acts) place services.old services.new }
 {
-    // The call is the first of the agenda, which is then taken from it.
+    // The call is the first event of the agenda, and is removed from it.
     laws::due_calls_go_in_order();
-    // Its owner is there, and stands at a node: a sequence at its home.
+    // The target of the event is active, and its node exists: for a sequence that is its sequencer.
     laws::asked_are_there();
     laws::homes_are_nodes();
-    agenda::order_keeps_all::<Owner, Option<Call>>();
-    agenda::order_loses_first::<Owner, Option<Call>>();
-    // Nothing is granted anywhere.
+    agenda::order_keeps_all::<EventTarget, Option<Call>>();
+    agenda::order_loses_first::<EventTarget, Option<Call>>();
+    // No request can be granted.
     laws::answers_are_settled();
     laws::wiring_stays();
     services.pass_blocked();
-    services.contest.close();
-    services.reporting.newest = None;
+    services.grant_index.close();
+    services.report_state.newest = None;
     let _ = services.agenda.take_first();
-    services.answer = last_answer(place, who, Some(origin.phase), count);
+    services.answer = answer_cursor(place, who, Some(origin.phase), count);
 }
 
-// An answer of which nothing is done.
-fn last_answer(place: u32, who: Who, phase: Option<Phase>, count: usize) -> LastAnswer
-    ensures { result ≡ record { speaker = who; phase = phase; place = Some place; count = count; done = 0; noted = false } }
+// Returns the cursor of an answer of which no action is performed yet.
+fn answer_cursor(place: u32, who: Who, phase: Option<Phase>, count: usize) -> AnswerCursor
+    ensures { result ≡ record { performer = who; phase = phase; place = Some place; count = count; done = 0; noted = false } }
 {
-    LastAnswer {
-        speaker: who,
+    AnswerCursor {
+        performer: who,
         phase,
         place: Some(place as usize),
         count,

@@ -1,13 +1,5 @@
 -- An act of the last answer.
-use Rattle.std.proofs.Common.{◌≡◌, ℕ, zero, suc, ◌+◌, ◌-◌, ◌<◌, ◌≤◌, Bool, true, false, List, [], ◌∷◌, ◌++◌, length, drop, slice_get, Option, Some, refl, ap, sym, ◌∙◌, add-one, arith}
-use Rattle.std.proofs.lemmas.List.{length-append, length-drop}
-use Rattle.uvm_phase.specs.declared.phases.Phase.{Phase}
-use Rattle.uvm_acts.specs.declared.acts.Who.{Who}
-use Rattle.uvm_acts.specs.declared.acts.Act.{Act}
-use Rattle.uvm_object.specs.declared.entries.Entry.{Entry}
-use Rattle.world_services.specs.declared.services.LastAnswer.{LastAnswer}
-use Rattle.bench_history.specs.History.{rest_of, head_of}
-use Rattle.world_services.specs.Services.{acts_at, unless_noted, IsLastAnswer}
+use Rattle.world_services.proofs.Common.{◌≡◌, ℕ, zero, suc, ◌+◌, ◌-◌, ◌<◌, ◌≤◌, Bool, true, false, List, [], ◌∷◌, ◌++◌, length, drop, slice_get, Option, Some, refl, ap, sym, ◌∙◌, add-one, arith, length-drop, Phase, Who, Act, Entry, AnswerCursor, rest_of, head_of, acts_at, unless_noted, IsAnswerCursor, length-append}
 use Rattle.world_services.proofs.Entered.{acts-later, answered-later}
 
 within-drop : (n : ℕ) (xs : List Act) (y : Act) (ys : List Act) → drop n xs ≡ y ∷ ys → n < length xs
@@ -22,18 +14,18 @@ left-within true n xs act rest e = cc
 left-within false n xs act rest e = within-drop n xs act rest e
 
 pub answer-open :
-    {opening : Act} {history : List Entry} {left : List Act} {last : Who} {acting : Option Phase} {kept : LastAnswer} (act : Act)
-    → left ≡ act ∷ rest_of left → IsLastAnswer opening history left last acting kept → kept.done < kept.count
-answer-open {opening} {history} {left} {kept = kept} act first a = rw a.count (left-within kept.noted kept.done (acts_at opening history kept.place) act (rest_of left) (a.rest ∙ first))
+    {test_creation : Act} {history : List Entry} {left : List Act} {last : Who} {acting : Option Phase} {kept : AnswerCursor} (act : Act)
+    → left ≡ act ∷ rest_of left → IsAnswerCursor test_creation history left last acting kept → kept.done < kept.count
+answer-open {test_creation} {history} {left} {kept = kept} act first a = rw a.count (left-within kept.noted kept.done (acts_at test_creation history kept.place) act (rest_of left) (a.rest ∙ first))
 
 -- with one more entry the answer stays
 pub answer-later :
-    {opening : Act} {history : List Entry} {left : List Act} {last : Who} {acting : Option Phase} {kept : LastAnswer} {entry : Entry}
-    → IsLastAnswer opening history left last acting kept → IsLastAnswer opening (entry ∷ history) left last acting kept
-answer-later {opening} {history} {kept = kept} {entry} a =
-    let same = acts-later opening entry history kept.place a.within in
+    {test_creation : Act} {history : List Entry} {left : List Act} {last : Who} {acting : Option Phase} {kept : AnswerCursor} {entry : Entry}
+    → IsAnswerCursor test_creation history left last acting kept → IsAnswerCursor test_creation (entry ∷ history) left last acting kept
+answer-later {test_creation} {history} {kept = kept} {entry} a =
+    let same = acts-later test_creation entry history kept.place a.within in
     record {
-      speaker = a.speaker;
+      performer = a.performer;
       phase = a.phase;
       rest = rw same a.rest;
       within = answered-later entry history kept.place a.within;
@@ -53,15 +45,15 @@ rest-unless false n xs = rest-drop n xs
 
 -- with one more act one more is done
 pub answer-next :
-    {opening : Act} {history : List Entry} {left : List Act} {last : Who} {acting : Option Phase} {kept : LastAnswer} {entry : Entry} {act : Act}
-    → left ≡ act ∷ rest_of left → IsLastAnswer opening history left last acting kept → IsLastAnswer opening (entry ∷ history) (rest_of left) last acting (record kept { done = kept.done + 1 })
-answer-next {opening} {history} {left} {kept = kept} {entry} {act} first a =
-    let same = acts-later opening entry history kept.place a.within in
+    {test_creation : Act} {history : List Entry} {left : List Act} {last : Who} {acting : Option Phase} {kept : AnswerCursor} {entry : Entry} {act : Act}
+    → left ≡ act ∷ rest_of left → IsAnswerCursor test_creation history left last acting kept → IsAnswerCursor test_creation (entry ∷ history) (rest_of left) last acting (record kept { done = kept.done + 1 })
+answer-next {test_creation} {history} {left} {kept = kept} {entry} {act} first a =
+    let same = acts-later test_creation entry history kept.place a.within in
     let open_ : kept.done < kept.count = answer-open act first a in
     record {
-      speaker = a.speaker;
+      performer = a.performer;
       phase = a.phase;
-      rest = rw (add-one, same) (rest-unless kept.noted kept.done (acts_at opening history kept.place) ∙ ap rest_of a.rest);
+      rest = rw (add-one, same) (rest-unless kept.noted kept.done (acts_at test_creation history kept.place) ∙ ap rest_of a.rest);
       within = answered-later entry history kept.place a.within;
       count = rw same a.count;
       few = omega (arith, open_);
@@ -69,12 +61,12 @@ answer-next {opening} {history} {left} {kept = kept} {entry} {act} first a =
 
 -- a note ends it
 pub answer-noted :
-    {opening : Act} {history : List Entry} {left : List Act} {last : Who} {acting : Option Phase} {kept : LastAnswer} {entry : Entry}
-    → IsLastAnswer opening history left last acting kept → IsLastAnswer opening (entry ∷ history) [] last acting (record kept { noted = true })
-answer-noted {opening} {history} {kept = kept} {entry} a =
-    let same = acts-later opening entry history kept.place a.within in
+    {test_creation : Act} {history : List Entry} {left : List Act} {last : Who} {acting : Option Phase} {kept : AnswerCursor} {entry : Entry}
+    → IsAnswerCursor test_creation history left last acting kept → IsAnswerCursor test_creation (entry ∷ history) [] last acting (record kept { noted = true })
+answer-noted {test_creation} {history} {kept = kept} {entry} a =
+    let same = acts-later test_creation entry history kept.place a.within in
     record {
-      speaker = a.speaker;
+      performer = a.performer;
       phase = a.phase;
       rest = refl;
       within = answered-later entry history kept.place a.within;
@@ -84,13 +76,13 @@ answer-noted {opening} {history} {kept = kept} {entry} a =
 
 -- and so does the end of a sequence, with one more act done
 pub answer-finished :
-    {opening : Act} {history : List Entry} {left : List Act} {last : Who} {acting : Option Phase} {kept : LastAnswer} {entry : Entry} {act : Act}
-    → left ≡ act ∷ rest_of left → IsLastAnswer opening history left last acting kept → IsLastAnswer opening (entry ∷ history) [] last acting (record kept { noted = true; done = kept.done + 1 })
-answer-finished {opening} {history} {kept = kept} {entry} {act} first a =
-    let same = acts-later opening entry history kept.place a.within in
+    {test_creation : Act} {history : List Entry} {left : List Act} {last : Who} {acting : Option Phase} {kept : AnswerCursor} {entry : Entry} {act : Act}
+    → left ≡ act ∷ rest_of left → IsAnswerCursor test_creation history left last acting kept → IsAnswerCursor test_creation (entry ∷ history) [] last acting (record kept { noted = true; done = kept.done + 1 })
+answer-finished {test_creation} {history} {kept = kept} {entry} {act} first a =
+    let same = acts-later test_creation entry history kept.place a.within in
     let open_ : kept.done < kept.count = answer-open act first a in
     record {
-      speaker = a.speaker;
+      performer = a.performer;
       phase = a.phase;
       rest = refl;
       within = answered-later entry history kept.place a.within;
@@ -106,17 +98,17 @@ head-drop (suc n) (x ∷ xs) = head-drop n xs
 
 -- the next act
 pub answer-head :
-    {opening : Act} {history : List Entry} {left : List Act} {last : Who} {acting : Option Phase} {kept : LastAnswer}
-    → kept.noted ≡ false → IsLastAnswer opening history left last acting kept → slice_get (acts_at opening history kept.place) kept.done ≡ head_of left
-answer-head {opening} {history} {kept = kept} on a =
+    {test_creation : Act} {history : List Entry} {left : List Act} {last : Who} {acting : Option Phase} {kept : AnswerCursor}
+    → kept.noted ≡ false → IsAnswerCursor test_creation history left last acting kept → slice_get (acts_at test_creation history kept.place) kept.done ≡ head_of left
+answer-head {test_creation} {history} {kept = kept} on a =
     let here = rw on at a.rest in
-    head-drop kept.done (acts_at opening history kept.place) ∙ ap head_of here
+    head-drop kept.done (acts_at test_creation history kept.place) ∙ ap head_of here
 
 -- how many are left
-pub answer-count : {opening : Act} {history : List Entry} {left : List Act} {last : Who} {acting : Option Phase} {kept : LastAnswer} → kept.noted ≡ false → IsLastAnswer opening history left last acting kept → kept.count - kept.done ≡ length left
-answer-count {opening} {history} {kept = kept} on a =
+pub answer-count : {test_creation : Act} {history : List Entry} {left : List Act} {last : Who} {acting : Option Phase} {kept : AnswerCursor} → kept.noted ≡ false → IsAnswerCursor test_creation history left last acting kept → kept.count - kept.done ≡ length left
+answer-count {test_creation} {history} {kept = kept} on a =
     let here = rw on at a.rest in
-    rw a.count (sym (length-drop kept.done (acts_at opening history kept.place)) ∙ ap length here)
+    rw a.count (sym (length-drop kept.done (acts_at test_creation history kept.place)) ∙ ap length here)
 
 pub one-longer : {A : Type 0} (xs : List A) (x : A) → length xs ≤ length (xs ++ x ∷ [])
 one-longer xs x = omega (arith, length-append xs (x ∷ []))

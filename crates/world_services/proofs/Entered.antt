@@ -1,10 +1,5 @@
 -- An entry stays at its place.
-use Rattle.std.proofs.Common.{◌≡◌, ℕ, zero, suc, ◌<◌, List, [], ◌∷◌, ◌++◌, length, reverse, slice_get, Option, Some, None, refl, ap, subst, ◌∙◌, arith}
-use Rattle.std.proofs.lemmas.List.{reverse-append, length-reverse}
-use Rattle.std.specs.Option.{ForSome}
-use Rattle.uvm_acts.specs.declared.acts.Act.{Act}
-use Rattle.uvm_object.specs.declared.entries.Entry.{Entry}
-use Rattle.world_services.specs.Services.{acts_at, acts_in}
+use Rattle.world_services.proofs.Common.{◌≡◌, ℕ, zero, suc, ◌<◌, List, [], ◌∷◌, ◌++◌, length, reverse, slice_get, Option, Some, None, refl, ap, subst, ◌∙◌, arith, reverse-append, length-reverse, ForSome, Act, Entry, acts_at, acts_in}
 
 get-front : {A : Type 0} (xs ys : List A) (k : ℕ) → k < length xs → slice_get (xs ++ ys) k ≡ slice_get xs k
 get-front [] ys k lt = absurd (omega arith)
@@ -17,9 +12,9 @@ get-later entry before place lt =
     ap (λ (entries : List Entry). slice_get entries place) (reverse-append (entry ∷ []) before)
     ∙ get-front (reverse before) (entry ∷ []) place (omega (arith, length-reverse before))
 
-pub acts-later : (opening : Act) (entry : Entry) (before : List Entry) (answer : Option ℕ) → ForSome answer (λ place. place < length before) → acts_at opening (entry ∷ before) answer ≡ acts_at opening before answer
-acts-later opening entry before None within = refl
-acts-later opening entry before (Some place) within = ap acts_in (get-later entry before place (within place refl))
+pub acts-later : (test_creation : Act) (entry : Entry) (before : List Entry) (answer : Option ℕ) → ForSome answer (λ place. place < length before) → acts_at test_creation (entry ∷ before) answer ≡ acts_at test_creation before answer
+acts-later test_creation entry before None within = refl
+acts-later test_creation entry before (Some place) within = ap acts_in (get-later entry before place (within place refl))
 
 pub answered-later : (entry : Entry) (before : List Entry) (answer : Option ℕ) → ForSome answer (λ place. place < length before) → ForSome answer (λ place. place < length (entry ∷ before))
 answered-later entry before answer within = λ place e. let lt = within place e in omega (arith, lt)

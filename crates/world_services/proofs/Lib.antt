@@ -1,14 +1,15 @@
 pub mod Acting
 pub mod Answered
+pub mod Common
 pub mod Configured
 pub mod Creating
 pub mod Entered
-pub mod Kept
-pub mod Known
 pub mod Later
 pub mod Opened
 pub mod Overriding
+pub mod Participants
 pub mod Passages
+pub mod Preserved
 pub mod Rounding
 pub mod Settling
 pub mod Waiting

@@ -1,43 +1,6 @@
 -- What goes through FIFOs, with one more entry.
-use Rattle.std.proofs.Common.{◌≡◌, ℕ, suc, ◌<◌, ◌==◌, nat_eq, Bool, true, false, not, ◌&&◌, List, [], ◌∷◌, ◌++◌, length, map, drop, slice_get, Option, Some, None, is_some, option_map, option_and_then, unwrap_or, All, Contains, inl, refl, ap, sym, ◌∙◌, subst, arith, length-append, if◌then◌else◌}
-use Rattle.std.specs.List.{IsDistinct}
-use Rattle.std.specs.Option.{option_or}
-use Rattle.std.specs.Map.{lookup}
-use Rattle.std.proofs.Math.Seq.{drop-nil}
-use Rattle.std.proofs.lemmas.Bool.Decides.{nat_tests}
-use Rattle.std.proofs.lemmas.List.Elements.{All-nil, All-head, All-tail, All-contains}
-use Rattle.uvm_glob.specs.Faults.{fault_if}
-use Rattle.uvm_glob.specs.Lists.{first_given}
-use Rattle.uvm_phase.specs.declared.phases.Phase.{Phase}
-use Rattle.uvm_phase.specs.Phases.{same_phase}
-use Rattle.uvm_tree.specs.Nodes.{Node}
-use Rattle.uvm_tree.specs.Sorted.{path_order}
-use Rattle.uvm_tlm.specs.declared.ends.PortKind.{PortKind}
-use Rattle.uvm_tlm.specs.declared.items.Item.{Item}
-use Rattle.uvm_tlm.specs.Fifos.{next_move}
-use Rattle.uvm_tlm.specs.Wirings.{WiringValue, IsPathOrder, end_at, is_closed, targets_of, with_end}
-use Rattle.uvm_object.specs.declared.fatals.Fatal.TheVariants.{OutsideTask, NoPort}
-use Rattle.uvm_object.specs.declared.entries.Passage.{Passage}
-use Rattle.uvm_object.specs.declared.entries.Entry.{Entry}
-use Rattle.uvm_object.specs.declared.entries.Entry.TheVariants.{End, Passed}
-use Rattle.bench_script.specs.Scripts.{ScriptValue}
-use Rattle.bench_history.specs.declared.askers.Gate.{Gate}
-use Rattle.bench_history.specs.History.{nodes_of, ended_of, in_task}
-use Rattle.bench_history.specs.Ports.{fifo_size, gate_at, gate_below, if_fifo, port_below, size_of}
-use Rattle.bench_history.specs.Wires.{wiring_of, with_both}
-use Rattle.bench_history.specs.Passing.{Request, Station, answered_at, is_no_put, is_put, is_take, items_entered, items_left, next_passed, passage_in, passing_at, puts_asked, puts_waiting, station_at, station_of, station_with, takes_asked, takes_waiting, with_last}
-use Rattle.bench_history.specs.Refusals.{passing_refusal}
-use Rattle.world_services.specs.declared.services.Services.{Services}
-use Rattle.world_wiring.specs.Connectings.{IsConnecting}
-use Rattle.world_fifos.specs.Passings.{AreAsked, AreStations, ArePassed, AreUnsettled, IsPassed}
-use Rattle.world_services.specs.OpenPorts.{gate_in}
-use Rattle.world_wiring.specs.Ports.{port_in}
-use Rattle.world_services.specs.Services.{ServicesMatch}
-use Rattle.world_fifos.specs.Stations.{ChangesAt, ChangesEach, Kept, after_passage, passing_in, without_waits}
-use Rattle.world_wiring.proofs.Connected.{closed-is}
-use Rattle.world_fifos.proofs.Passed.{HasPassed, blocked, fewer-blocked, phase-ended, changed_if, has-passed, passing-is, state}
-use Rattle.world_fifos.proofs.Waiting.{asked-later, asked-more, station-ended}
-use Rattle.world_agenda.proofs.Lists.{filter-none, filter-one, first-kept, first-none}
+use Rattle.world_services.proofs.Common.{◌≡◌, ℕ, suc, ◌<◌, ◌==◌, nat_eq, Bool, true, false, not, ◌&&◌, List, [], ◌∷◌, ◌++◌, length, map, drop, slice_get, Option, Some, None, is_some, option_map, option_and_then, unwrap_or, All, Contains, inl, refl, ap, sym, ◌∙◌, subst, arith, if◌then◌else◌, IsDistinct, option_or, lookup, drop-nil, nat_tests, All-nil, All-head, All-tail, All-contains, fault_if, first_given, Phase, same_phase, path_order, PortKind, Item, next_move, WiringValue, IsPathOrder, end_at, is_closed, targets_of, with_end, OutsideTask, NoPort, Passage, Entry, End, Passed, ScriptValue, FifoPort, nodes_of, ended_of, in_task, fifo_size, fifo_port_at, fifo_port_below, if_fifo, port_below, size_of, wiring_of, with_both, Request, FifoState, answered_at, is_no_put, is_put, is_take, items_entered, items_left, next_passed, passage_in, passing_at, puts_asked, puts_waiting, fifo_state_at, fifo_state_of, fifo_state_with, takes_asked, takes_waiting, with_last, passing_refusal, Services, IsConnecting, AreAsked, AreFifoStates, ArePassed, AreToSettle, IsPassed, fifo_port_in, port_in, ServicesMatch, ChangesAt, ChangesEach, FifoMap, after_passage, passing_in, without_waits, closed-is, blocked, fewer-blocked, phase-ended, changed_if, has-passed, passing-is, state, asked-later, asked-more, fifo_state-ended, filter-none, filter-one, first-kept, first-none, length-append, Node}
+use Rattle.world_state.proofs.Passed.{HasPassed}
 use Rattle.uvm_tlm.specs.declared.ends.End as ends
 
 -- a wiring that is closed is the one in which ports are looked at
@@ -49,14 +12,14 @@ closed-same {nodes} {wiring} {kept} c closed = ap (λ (order : Option (List ℕ)
     same (Some order) e = refl
 
 module _ {script : ScriptValue} {history : List Entry} {services : Services} (m : ServicesMatch script history services) where
-  pub port-known : (kind : PortKind) (name : List ℕ) → is_closed services.wiring ≡ true → port_below history services.answer.speaker kind name ≡ port_in services.tree.nodes services.wiring services.answer.speaker kind name
+  pub port-known : (kind : PortKind) (name : List ℕ) → is_closed services.wiring ≡ true → port_below history services.answer.performer kind name ≡ port_in services.tree.nodes services.wiring services.answer.performer kind name
   unfolding port_below
   port-known kind name closed = rw (closed-same m.connecting closed, m.tree) refl
 
-  -- the gate of a port is the one that the services know
-  pub gate-known : (kind : PortKind) (name : List ℕ) → is_closed services.wiring ≡ true → gate_below history services.answer.speaker kind name ≡ gate_in services kind name
-  unfolding gate_below
-  gate-known kind name closed = rw (port-known kind name closed, closed-same m.connecting closed) refl
+  -- the FIFO port of a port is the one that the services know
+  pub fifo_port-known : (kind : PortKind) (name : List ℕ) → is_closed services.wiring ≡ true → fifo_port_below history services.answer.performer kind name ≡ fifo_port_in services kind name
+  unfolding fifo_port_below
+  fifo_port-known kind name closed = rw (port-known kind name closed, closed-same m.connecting closed) refl
 
 -- what is refused to them is refused
 pub refusal-known : (stage : Option Phase) (known found : Bool) → (in_task stage ≡ true → known ≡ found) → passing_refusal stage known ≡ passing_refusal stage found
@@ -67,21 +30,21 @@ refusal-known stage known found same = tested (in_task stage) same
     tested true same = rw (same refl) refl
     tested false same = refl
 
--- a gate leads to a FIFO
-pub gate-sized : (wiring : WiringValue) (port : Option ℕ) (gate : Gate) → option_and_then (gate_at wiring) port ≡ Some gate → fifo_size wiring gate.fifo ≡ None → ⊥
-gate-sized wiring None gate is none = cc
-gate-sized wiring (Some port) gate is none = targeted (slice_get (targets_of wiring port) 0) is
+-- a FIFO port leads to a FIFO
+pub fifo_port-sized : (wiring : WiringValue) (port : Option ℕ) (fifo_port : FifoPort) → option_and_then (fifo_port_at wiring) port ≡ Some fifo_port → fifo_size wiring fifo_port.fifo ≡ None → ⊥
+fifo_port-sized wiring None fifo_port is none = cc
+fifo_port-sized wiring (Some port) fifo_port is none = targeted (slice_get (targets_of wiring port) 0) is
   where
-    sized : (target : ℕ) (size : Option ℕ) → fifo_size wiring target ≡ size → option_map (λ fifo. record { port = port; fifo = fifo }) (option_map (λ size. target) size) ≡ Some gate → ⊥
+    sized : (target : ℕ) (size : Option ℕ) → fifo_size wiring target ≡ size → option_map (λ fifo. record { port = port; fifo = fifo }) (option_map (λ size. target) size) ≡ Some fifo_port → ⊥
     sized target None e is = cc
     sized target (Some size) e is =
-        let same : record { port = port; fifo = target } ≡ gate = cc in
-        let fifo : target ≡ gate.fifo = ap (λ (g : Gate). g.fifo) same in
+        let same : record { port = port; fifo = target } ≡ fifo_port = cc in
+        let fifo : target ≡ fifo_port.fifo = ap (λ (g : FifoPort). g.fifo) same in
         let none' : fifo_size wiring target ≡ None = rw fifo none in
         let absurd' : Some size ≡ None = sym e ∙ none' in
         cc
 
-    targeted : (target : Option ℕ) → option_map (λ fifo. record { port = port; fifo = fifo }) (option_and_then (if_fifo wiring) target) ≡ Some gate → ⊥
+    targeted : (target : Option ℕ) → option_map (λ fifo. record { port = port; fifo = fifo }) (option_and_then (if_fifo wiring) target) ≡ Some fifo_port → ⊥
     targeted None is = cc
     targeted (Some target) is = sized target (fifo_size wiring target) refl is
 
@@ -113,11 +76,11 @@ passed-later p = record { each = λ n. node-later (p.each n) }
 
 module _ {count : ℕ} {size : Option ℕ} {entered : List Item} {left : ℕ} {puts : List (Request Item)} {puts_answered : List ℕ} {takes : List (Request Bool)} {takes_answered : List ℕ} (p : IsPassed count size entered left puts puts_answered takes takes_answered) where
   -- that asks for a put, a take or a peek at a FIFO
-  pub node-put : (asked : Option (Request Item)) (about : Bool) (request : Request Item) → asked ≡ (if about then Some request else None) → request.asker.place ≡ count → (about ≡ true → size ≡ None → ⊥) → IsPassed (suc count) size entered left (with_last puts asked) puts_answered takes takes_answered
+  pub node-put : (asked : Option (Request Item)) (about : Bool) (request : Request Item) → asked ≡ (if about then Some request else None) → request.requester.place ≡ count → (about ≡ true → size ≡ None → ⊥) → IsPassed (suc count) size entered left (with_last puts asked) puts_answered takes takes_answered
   node-put asked false request is at sized = rw is (node-later p)
   node-put asked true request is at sized = rw is (record { few = p.few; are_puts = asked-more request at p.are_puts; are_takes = asked-later p.are_takes; no_item = p.no_item; no_put = λ none. absurd (sized refl none); no_take = p.no_take })
 
-  pub node-take : (asked : Option (Request Bool)) (about : Bool) (request : Request Bool) → asked ≡ (if about then Some request else None) → request.asker.place ≡ count → (about ≡ true → size ≡ None → ⊥) → IsPassed (suc count) size entered left puts puts_answered (with_last takes asked) takes_answered
+  pub node-take : (asked : Option (Request Bool)) (about : Bool) (request : Request Bool) → asked ≡ (if about then Some request else None) → request.requester.place ≡ count → (about ≡ true → size ≡ None → ⊥) → IsPassed (suc count) size entered left puts puts_answered (with_last takes asked) takes_answered
   node-take asked false request is at sized = rw is (node-later p)
   node-take asked true request is at sized = rw is (record { few = p.few; are_puts = asked-later p.are_puts; are_takes = asked-more request at p.are_takes; no_item = p.no_item; no_put = p.no_put; no_take = λ none. absurd (sized refl none) })
 
@@ -131,7 +94,7 @@ module _ {count : ℕ} {size : Option ℕ} {entered : List Item} {left : ℕ} {p
   node-taken true there = record { few = (let lt = there refl in omega (arith, lt)); are_puts = asked-later p.are_puts; are_takes = asked-later p.are_takes; no_item = p.no_item; no_put = p.no_put; no_take = p.no_take }
 
 -- where nothing passes next, nothing passes anywhere
-pub settled-all : (history : List Entry) {kept : List ℕ} → AreUnsettled (passing_at history) (path_order (nodes_of history)) kept → next_passed history ≡ None → (n : ℕ) → passing_at history n ≡ None
+pub settled-all : (history : List Entry) {kept : List ℕ} → AreToSettle (passing_at history) (path_order (nodes_of history)) kept → next_passed history ≡ None → (n : ℕ) → passing_at history n ≡ None
 unfolding next_passed
 settled-all history u none n = tested (u.among n) refl
   where
@@ -139,33 +102,33 @@ settled-all history u none n = tested (u.among n) refl
     tested true is = All-contains (λ n. passing_at history n ≡ None) (path_order (nodes_of history)) n (first-none (passing_at history) (path_order (nodes_of history)) none) (u.held n is)
     tested false is = u.others n is
 
-pub next-found : {passing : ℕ → Option (ℕ × Passage)} {order kept : List ℕ} → AreUnsettled passing order kept → first_given (map passing kept) ≡ first_given (map passing order)
+pub next-found : {passing : ℕ → Option (ℕ × Passage)} {order kept : List ℕ} → AreToSettle passing order kept → first_given (map passing kept) ≡ first_given (map passing order)
 next-found {passing} {order} u = rw u.kept_are (first-kept passing u.among order u.others)
 
 -- nothing is kept where nothing passes
-pub unsettled-none : {passing : ℕ → Option (ℕ × Passage)} (order : List ℕ) → ((n : ℕ) → passing n ≡ None) → AreUnsettled passing order []
-unsettled-none order none = record { among = λ n. false; kept_are = sym (filter-none order); others = λ n e. none n; held = λ n e. cc }
+pub fifos_to_settle-none : {passing : ℕ → Option (ℕ × Passage)} (order : List ℕ) → ((n : ℕ) → passing n ≡ None) → AreToSettle passing order []
+fifos_to_settle-none order none = record { among = λ n. false; kept_are = sym (filter-none order); others = λ n e. none n; held = λ n e. cc }
 
 -- or what passes passes at one FIFO
-pub unsettled-one : {passing : ℕ → Option (ℕ × Passage)} (order : List ℕ) (fifo : ℕ) → IsDistinct nat_eq order → Contains order fifo → ((n : ℕ) → (fifo == n) ≡ false → passing n ≡ None) → AreUnsettled passing order (fifo ∷ [])
-unsettled-one order fifo distinct there none = record { among = nat_eq fifo; kept_are = sym (filter-one fifo order distinct there); others = none; held = λ n is. (let same : fifo ≡ n = grind (arith, nat_tests) in subst (Contains order) same there) }
+pub fifos_to_settle-one : {passing : ℕ → Option (ℕ × Passage)} (order : List ℕ) (fifo : ℕ) → IsDistinct nat_eq order → Contains order fifo → ((n : ℕ) → (fifo == n) ≡ false → passing n ≡ None) → AreToSettle passing order (fifo ∷ [])
+fifos_to_settle-one order fifo distinct there none = record { among = nat_eq fifo; kept_are = sym (filter-one fifo order distinct there); others = none; held = λ n is. (let same : fifo ≡ n = grind (arith, nat_tests) in subst (Contains order) same there) }
 
 -- a FIFO changes, and no other
-pub stations-changed : {at later : ℕ → Option Station} (fifo : ℕ) (change : Station → Station) {old new : Kept} → ((n : ℕ) → later n ≡ changed_if (fifo == n) change (at n)) → ChangesAt fifo change old new → AreStations at old → AreStations later new
-stations-changed fifo change changes c a = record { each = λ n. c n ∙ rw (a.each n) (sym (changes n)) }
+pub fifo_states-changed : {at later : ℕ → Option FifoState} (fifo : ℕ) (change : FifoState → FifoState) {old new : FifoMap} → ((n : ℕ) → later n ≡ changed_if (fifo == n) change (at n)) → ChangesAt fifo change old new → AreFifoStates at old → AreFifoStates later new
+fifo_states-changed fifo change changes c a = record { each = λ n. c n ∙ rw (a.each n) (sym (changes n)) }
 
-pub passing-same : (history later : List Entry) (fifo : ℕ) (change : Station → Station) → ((n : ℕ) → station_at later n ≡ changed_if (fifo == n) change (station_at history n)) → ((n : ℕ) → passing_at history n ≡ None) → (n : ℕ) → (fifo == n) ≡ false → passing_at later n ≡ None
+pub passing-same : (history later : List Entry) (fifo : ℕ) (change : FifoState → FifoState) → ((n : ℕ) → fifo_state_at later n ≡ changed_if (fifo == n) change (fifo_state_at history n)) → ((n : ℕ) → passing_at history n ≡ None) → (n : ℕ) → (fifo == n) ≡ false → passing_at later n ≡ None
 passing-same history later fifo change changes none n other =
-    let same : station_at later n ≡ station_at history n = changes n ∙ rw other refl in
-    ap (λ (station : Option Station). option_map (λ passage. (n, passage)) (option_and_then passage_in station)) same ∙ none n
+    let same : fifo_state_at later n ≡ fifo_state_at history n = changes n ∙ rw other refl in
+    ap (λ (fifo_state : Option FifoState). option_map (λ passage. (n, passage)) (option_and_then passage_in fifo_state)) same ∙ none n
 
 -- what passes at a node passes to the services
-pub passing-known : (history : List Entry) {kept : Kept} → AreStations (station_at history) kept → passing_in kept ≡ passing_at history
-passing-known history a = λ i n. ap (λ (station : Option Station). option_map (λ passage. (n, passage)) (option_and_then passage_in station)) (a.each n) i
+pub passing-known : (history : List Entry) {kept : FifoMap} → AreFifoStates (fifo_state_at history) kept → passing_in kept ≡ passing_at history
+passing-known history a = λ i n. ap (λ (fifo_state : Option FifoState). option_map (λ passage. (n, passage)) (option_and_then passage_in fifo_state)) (a.each n) i
 
-pub next-known : {script : ScriptValue} {history : List Entry} {services : Services} → ServicesMatch script history services → first_given (map (passing_in services.stations) services.unsettled.items) ≡ next_passed history
+pub next-known : {script : ScriptValue} {history : List Entry} {services : Services} → ServicesMatch script history services → first_given (map (passing_in services.fifo_states) services.fifos_to_settle.items) ≡ next_passed history
 unfolding next_passed
-next-known {history = history} {services} m = ap (λ (f : ℕ → Option (ℕ × Passage)). first_given (map f services.unsettled.items)) (passing-known history m.stations) ∙ next-found m.unsettled
+next-known {history = history} {services} m = ap (λ (f : ℕ → Option (ℕ × Passage)). first_given (map f services.fifos_to_settle.items)) (passing-known history m.fifo_states) ∙ next-found m.fifos_to_settle
 
 -- what is given first is given of one
 first-some : {A : Type 0} (f : ℕ → Option A) (xs : List ℕ) (a : A) → first_given (map f xs) ≡ Some a → (n : ℕ) × (f n ≡ Some a)
@@ -177,24 +140,24 @@ first-some {A = A} f (x ∷ xs) a e = headed (f x) refl e (first-some f xs a)
     headed (Some b) is e behind = (x, is ∙ e)
 
 -- what passes next passes at its FIFO
-pub next-passes : (history : List Entry) (fifo : ℕ) (passage : Passage) → next_passed history ≡ Some (fifo, passage) → option_and_then passage_in (station_at history fifo) ≡ Some passage
+pub next-passes : (history : List Entry) (fifo : ℕ) (passage : Passage) → next_passed history ≡ Some (fifo, passage) → option_and_then passage_in (fifo_state_at history fifo) ≡ Some passage
 unfolding next_passed
 next-passes history fifo passage e =
     let found = first-some (passing_at history) (path_order (nodes_of history)) (fifo, passage) e in
-    passes found.0 (option_and_then passage_in (station_at history found.0)) refl found.1
+    passes found.0 (option_and_then passage_in (fifo_state_at history found.0)) refl found.1
   where
-    passes : (n : ℕ) (given : Option Passage) → option_and_then passage_in (station_at history n) ≡ given → option_map {U = ℕ × Passage} (λ passage. (n, passage)) given ≡ Some (fifo, passage) → option_and_then passage_in (station_at history fifo) ≡ Some passage
+    passes : (n : ℕ) (given : Option Passage) → option_and_then passage_in (fifo_state_at history n) ≡ given → option_map {U = ℕ × Passage} (λ passage. (n, passage)) given ≡ Some (fifo, passage) → option_and_then passage_in (fifo_state_at history fifo) ≡ Some passage
     passes n None is e = cc
     passes n (Some other) is e =
         let pair : (n, other) ≡ (fifo, passage) = cc in
         let same : n ≡ fifo = ap (λ (p : ℕ × Passage). p.0) pair in
         let one : other ≡ passage = ap (λ (p : ℕ × Passage). p.1) pair in
-        subst (λ (n : ℕ). option_and_then passage_in (station_at history n) ≡ Some passage) same (is ∙ ap (λ (p : Passage). Some p) one)
+        subst (λ (n : ℕ). option_and_then passage_in (fifo_state_at history n) ≡ Some passage) same (is ∙ ap (λ (p : Passage). Some p) one)
 
 -- something passes at a FIFO
-module _ (history : List Entry) (fifo : ℕ) (passage : Passage) (passed : ArePassed (length history) (fifo_size (wiring_of history)) (items_entered history) (items_left history) (puts_asked history) (answered_at is_put history) (takes_asked history) (answered_at is_no_put history)) (passes : option_and_then passage_in (station_at history fifo) ≡ Some passage) where
-  sized : (size : Option ℕ) → option_and_then passage_in (option_map (station_of history fifo) size) ≡ Some passage → fifo_size (wiring_of history) fifo ≡ size
-      → (size : ℕ) × (fifo_size (wiring_of history) fifo ≡ Some size) × (passage_in (station_of history fifo size) ≡ Some passage)
+module _ (history : List Entry) (fifo : ℕ) (passage : Passage) (passed : ArePassed (length history) (fifo_size (wiring_of history)) (items_entered history) (items_left history) (puts_asked history) (answered_at is_put history) (takes_asked history) (answered_at is_no_put history)) (passes : option_and_then passage_in (fifo_state_at history fifo) ≡ Some passage) where
+  sized : (size : Option ℕ) → option_and_then passage_in (option_map (fifo_state_of history fifo) size) ≡ Some passage → fifo_size (wiring_of history) fifo ≡ size
+      → (size : ℕ) × (fifo_size (wiring_of history) fifo ≡ Some size) × (passage_in (fifo_state_of history fifo size) ≡ Some passage)
   sized None e is = cc
   sized (Some size) e is = (size, is, e)
 
@@ -203,7 +166,7 @@ module _ (history : List Entry) (fifo : ℕ) (passage : Passage) (passed : ArePa
       (takes_asked history n) (answered_at is_no_put history n) (if is_no_put passage.kind then passage.request ∷ answered_at is_no_put history n else answered_at is_no_put history n) (ended_of history)
   passed-fifo n same =
       let s = sized (fifo_size (wiring_of history) fifo) passes refl in
-      let here = subst (λ (n : ℕ). (fifo_size (wiring_of history) n ≡ Some s.0) × (passage_in (station_of history n s.0) ≡ Some passage)) same (s.1, s.2) in
+      let here = subst (λ (n : ℕ). (fifo_size (wiring_of history) n ≡ Some s.0) × (passage_in (fifo_state_of history n s.0) ≡ Some passage)) same (s.1, s.2) in
       let p = passed.each n in (
         s.0,
         here.0,
@@ -211,18 +174,18 @@ module _ (history : List Entry) (fifo : ℕ) (passage : Passage) (passed : ArePa
             (passing-is s.0 (drop (items_left history n) (items_entered history n)) (puts_waiting history n) (takes_waiting history n) passage here.1),
       )
 
-  pub passed-changes : (n : ℕ) → station_at (Passed fifo passage ∷ history) n ≡ changed_if (fifo == n) (λ s. after_passage (next_move s.fifo) s) (station_at history n)
+  pub passed-changes : (n : ℕ) → fifo_state_at (Passed fifo passage ∷ history) n ≡ changed_if (fifo == n) (λ s. after_passage (next_move s.fifo) s) (fifo_state_at history n)
   passed-changes n = tested (fifo == n) refl
     where
       tested : (b : Bool) → (fifo == n) ≡ b
           → state (fifo_size (wiring_of history) n) (if b && is_put passage.kind then items_entered history n ++ passage.item ∷ [] else items_entered history n) (if b && is_take passage.kind then suc (items_left history n) else items_left history n) (puts_asked history n)
           (if b && is_put passage.kind then passage.request ∷ answered_at is_put history n else answered_at is_put history n) (takes_asked history n) (if b && is_no_put passage.kind then passage.request ∷ answered_at is_no_put history n else answered_at is_no_put history n) (ended_of history)
-          ≡ changed_if b (λ s. after_passage (next_move s.fifo) s) (station_at history n)
+          ≡ changed_if b (λ s. after_passage (next_move s.fifo) s) (fifo_state_at history n)
       tested false is = refl
       tested true is =
           let same : fifo ≡ n = grind (arith, nat_tests) in
           let p = passed-fifo n same in
-          rw p.1 p.2.station
+          rw p.1 p.2.fifo_state
 
   pub passed-more : ArePassed (suc (length history)) (fifo_size (wiring_of history)) (items_entered (Passed fifo passage ∷ history)) (items_left (Passed fifo passage ∷ history)) (puts_asked history) (answered_at is_put (Passed fifo passage ∷ history)) (takes_asked history) (answered_at is_no_put (Passed fifo passage ∷ history))
   passed-more = record { each = λ n. tested n (fifo == n) refl }
@@ -240,16 +203,16 @@ module _ (history : List Entry) (fifo : ℕ) (passage : Passage) (passed : ArePa
           some e none = let f = sym e ∙ none in cc
 
   -- elsewhere nothing passes that did not
-  pub unsettled-passed : {kept : List ℕ} → AreUnsettled (passing_at history) (path_order (nodes_of history)) kept → AreUnsettled (passing_at (Passed fifo passage ∷ history)) (path_order (nodes_of history)) kept
-  unsettled-passed u = record { among = u.among; kept_are = u.kept_are; others = λ n is. tested n (fifo == n) refl (u.others n is); held = u.held }
+  pub fifos_to_settle-passed : {kept : List ℕ} → AreToSettle (passing_at history) (path_order (nodes_of history)) kept → AreToSettle (passing_at (Passed fifo passage ∷ history)) (path_order (nodes_of history)) kept
+  fifos_to_settle-passed u = record { among = u.among; kept_are = u.kept_are; others = λ n is. tested n (fifo == n) refl (u.others n is); held = u.held }
     where
       tested : (n : ℕ) (b : Bool) → (fifo == n) ≡ b → passing_at history n ≡ None → passing_at (Passed fifo passage ∷ history) n ≡ None
       tested n true is none =
           let same : fifo ≡ n = grind (arith, nat_tests) in
-          let here : option_and_then passage_in (station_at history n) ≡ Some passage = subst (λ (n : ℕ). option_and_then passage_in (station_at history n) ≡ Some passage) same passes in
+          let here : option_and_then passage_in (fifo_state_at history n) ≡ Some passage = subst (λ (n : ℕ). option_and_then passage_in (fifo_state_at history n) ≡ Some passage) same passes in
           let some : Some (n, passage) ≡ None = sym (ap (λ (given : Option Passage). option_map (λ passage. (n, passage)) given) here) ∙ none in
           cc
-      tested n false is none = ap (λ (station : Option Station). option_map (λ passage. (n, passage)) (option_and_then passage_in station)) (passed-changes n ∙ rw is refl) ∙ none
+      tested n false is none = ap (λ (fifo_state : Option FifoState). option_map (λ passage. (n, passage)) (option_and_then passage_in fifo_state)) (passed-changes n ∙ rw is refl) ∙ none
 
 -- what is connected makes no FIFO
 pub both-sizes : (wiring : WiringValue) (from to : Option ℕ) (n : ℕ) → fifo_size (with_both from to wiring) n ≡ fifo_size wiring n
@@ -262,8 +225,8 @@ pub node-sized :
     → same ≡ size → IsPassed count size entered left puts puts_answered takes takes_answered → IsPassed (suc count) same entered left puts puts_answered takes takes_answered
 node-sized same is p = rw is (node-later p)
 
-pub unsettled-same : {passing later : ℕ → Option (ℕ × Passage)} {order kept : List ℕ} → ((n : ℕ) → later n ≡ passing n) → AreUnsettled passing order kept → AreUnsettled later order kept
-unsettled-same same u = record { among = u.among; kept_are = u.kept_are; others = λ n is. same n ∙ u.others n is; held = u.held }
+pub fifos_to_settle-same : {passing later : ℕ → Option (ℕ × Passage)} {order kept : List ℕ} → ((n : ℕ) → later n ≡ passing n) → AreToSettle passing order kept → AreToSettle later order kept
+fifos_to_settle-same same u = record { among = u.among; kept_are = u.kept_are; others = λ n is. same n ∙ u.others n is; held = u.held }
 
 -- what is added at a node may be a FIFO
 pub size-more : (count : ℕ) (end : ends.End) (wiring : WiringValue) (n : ℕ) → fifo_size (with_end count end wiring) n ≡ (if count == n then size_of end else fifo_size wiring n)
@@ -274,15 +237,15 @@ size-more count end wiring n = tested (nat_eq n count) refl
     tested false is = let other : (count == n) ≡ false = grind (arith, nat_tests) in rw other refl
 
 -- which is empty
-abbrev pub added_if : Bool → Option ℕ → Option Station
-added_if about size = if about then option_map (λ size. station_with size [] [] []) size else None
+abbrev pub added_if : Bool → Option ℕ → Option FifoState
+added_if about size = if about then option_map (λ size. fifo_state_with size [] [] []) size else None
 
 module _ {count : ℕ} {size : Option ℕ} {entered : List Item} {left : ℕ} {puts : List (Request Item)} {puts_answered : List ℕ} {takes : List (Request Bool)} {takes_answered : List ℕ} (p : IsPassed count size entered left puts puts_answered takes takes_answered) where
   pub added-state : (about : Bool) (more now : Option ℕ) (ended : List Phase) → now ≡ (if about then more else size) → (about ≡ true → size ≡ None) → option_or (added_if about more) (state size entered left puts puts_answered takes takes_answered ended) ≡ state now entered left puts puts_answered takes takes_answered ended
   added-state false more now ended is new = rw is refl
   added-state true more now ended is new = rw (is, new refl, p.no_item (new refl), p.no_put (new refl), p.no_take (new refl), drop-nil {A = Item} left) (empty more)
     where
-      empty : (more : Option ℕ) → option_or (option_map (λ size. station_with size [] [] []) more) None ≡ option_map (λ size. station_with size [] [] []) more
+      empty : (more : Option ℕ) → option_or (option_map (λ size. fifo_state_with size [] [] []) more) None ≡ option_map (λ size. fifo_state_with size [] [] []) more
       empty None = refl
       empty (Some size) = refl
 
@@ -290,53 +253,53 @@ module _ {count : ℕ} {size : Option ℕ} {entered : List Item} {left : ℕ} {p
   added-node false more now is new = node-sized now is p
   added-node true more now is new = record { few = p.few; are_puts = asked-later p.are_puts; are_takes = asked-later p.are_takes; no_item = λ e. p.no_item (new refl); no_put = λ e. p.no_put (new refl); no_take = λ e. p.no_take (new refl) }
 
-pub added-none : (n : ℕ) (about : Bool) (more : Option ℕ) (station : Option Station) → (about ≡ true → station ≡ None) → option_map {U = ℕ × Passage} (λ passage. (n, passage)) (option_and_then passage_in station) ≡ None
-    → option_map {U = ℕ × Passage} (λ passage. (n, passage)) (option_and_then passage_in (option_or (added_if about more) station)) ≡ None
-added-none n false more station new none = none
-added-none n true None station new none = rw (new refl) refl
-added-none n true (Some size) station new none = rw (blocked size [] [] [] (inl refl) (inl refl)) refl
+pub added-none : (n : ℕ) (about : Bool) (more : Option ℕ) (fifo_state : Option FifoState) → (about ≡ true → fifo_state ≡ None) → option_map {U = ℕ × Passage} (λ passage. (n, passage)) (option_and_then passage_in fifo_state) ≡ None
+    → option_map {U = ℕ × Passage} (λ passage. (n, passage)) (option_and_then passage_in (option_or (added_if about more) fifo_state)) ≡ None
+added-none n false more fifo_state new none = none
+added-none n true None fifo_state new none = rw (new refl) refl
+added-none n true (Some size) fifo_state new none = rw (blocked size [] [] [] (inl refl) (inl refl)) refl
 
--- a FIFO's size makes its station
-pub no-station : (history : List Entry) (n : ℕ) → fifo_size (wiring_of history) n ≡ None → station_at history n ≡ None
-no-station history n none = ap (λ (size : Option ℕ). option_map (station_of history n) size) none
+-- a FIFO's size makes its state
+pub no-fifo_state : (history : List Entry) (n : ℕ) → fifo_size (wiring_of history) n ≡ None → fifo_state_at history n ≡ None
+no-fifo_state history n none = ap (λ (size : Option ℕ). option_map (fifo_state_of history n) size) none
 
 -- a phase ends: those who asked in it wait no more
-ended-is : (history : List Entry) (phase : Phase) (n : ℕ) → station_at (End phase ∷ history) n ≡ option_map (without_waits phase) (station_at history n)
+ended-is : (history : List Entry) (phase : Phase) (n : ℕ) → fifo_state_at (End phase ∷ history) n ≡ option_map (without_waits phase) (fifo_state_at history n)
 ended-is history phase n = phase-ended (fifo_size (wiring_of history) n) (items_entered history n) (items_left history n) (puts_asked history n) (answered_at is_put history n) (takes_asked history n) (answered_at is_no_put history n) (ended_of history) phase
 
-pub stations-ended : (history : List Entry) (phase : Phase) {old new : Kept} → ChangesEach (without_waits phase) old new → AreStations (station_at history) old → AreStations (station_at (End phase ∷ history)) new
-stations-ended history phase c a = record { each = λ n. c n ∙ ap (λ (station : Option Station). option_map (without_waits phase) station) (a.each n) ∙ sym (ended-is history phase n) }
+pub fifo_states-ended : (history : List Entry) (phase : Phase) {old new : FifoMap} → ChangesEach (without_waits phase) old new → AreFifoStates (fifo_state_at history) old → AreFifoStates (fifo_state_at (End phase ∷ history)) new
+fifo_states-ended history phase c a = record { each = λ n. c n ∙ ap (λ (fifo_state : Option FifoState). option_map (without_waits phase) fifo_state) (a.each n) ∙ sym (ended-is history phase n) }
 
 -- so that nothing more passes
 sized-ended :
-    (n : ℕ) (phase : Phase) (size : Option ℕ) (items : List Item) (puts : List (Request Item)) (takes : List (Request Bool)) → option_map {U = ℕ × Passage} (λ passage. (n, passage)) (option_and_then passage_in (option_map (λ size. station_with size items puts takes) size)) ≡ None
-    → option_map {U = ℕ × Passage} (λ passage. (n, passage)) (option_and_then passage_in (option_map (without_waits phase) (option_map (λ size. station_with size items puts takes) size))) ≡ None
+    (n : ℕ) (phase : Phase) (size : Option ℕ) (items : List Item) (puts : List (Request Item)) (takes : List (Request Bool)) → option_map {U = ℕ × Passage} (λ passage. (n, passage)) (option_and_then passage_in (option_map (λ size. fifo_state_with size items puts takes) size)) ≡ None
+    → option_map {U = ℕ × Passage} (λ passage. (n, passage)) (option_and_then passage_in (option_map (without_waits phase) (option_map (λ size. fifo_state_with size items puts takes) size))) ≡ None
 sized-ended n phase None items puts takes none = refl
 sized-ended n phase (Some size) items puts takes none =
-    let still = fewer-blocked size items puts takes (λ request. not (same_phase request.asker.phase phase)) (λ request. not (same_phase request.asker.phase phase)) (blocked-at (passage_in (station_with size items puts takes)) none) in
-    ap (λ (s : Station). option_map {U = ℕ × Passage} (λ passage. (n, passage)) (passage_in s)) (station-ended phase size items puts takes)
+    let still = fewer-blocked size items puts takes (λ request. not (same_phase request.requester.phase phase)) (λ request. not (same_phase request.requester.phase phase)) (blocked-at (passage_in (fifo_state_with size items puts takes)) none) in
+    ap (λ (s : FifoState). option_map {U = ℕ × Passage} (λ passage. (n, passage)) (passage_in s)) (fifo_state-ended phase size items puts takes)
     ∙ ap (λ (passage : Option Passage). option_map {U = ℕ × Passage} (λ passage. (n, passage)) passage) still
   where
     blocked-at : (passage : Option Passage) → option_map {U = ℕ × Passage} (λ passage. (n, passage)) passage ≡ None → passage ≡ None
     blocked-at None e = refl
     blocked-at (Some passage) e = cc
 
-pub unsettled-ended : (history : List Entry) (phase : Phase) {kept : List ℕ} → AreUnsettled (passing_at history) (path_order (nodes_of history)) kept → AreUnsettled (passing_at (End phase ∷ history)) (path_order (nodes_of history)) kept
-unsettled-ended history phase u = record {
+pub fifos_to_settle-ended : (history : List Entry) (phase : Phase) {kept : List ℕ} → AreToSettle (passing_at history) (path_order (nodes_of history)) kept → AreToSettle (passing_at (End phase ∷ history)) (path_order (nodes_of history)) kept
+fifos_to_settle-ended history phase u = record {
   among = u.among;
   kept_are = u.kept_are;
   others = λ n is.
-      ap (λ (station : Option Station). option_map {U = ℕ × Passage} (λ passage. (n, passage)) (option_and_then passage_in station)) (ended-is history phase n)
+      ap (λ (fifo_state : Option FifoState). option_map {U = ℕ × Passage} (λ passage. (n, passage)) (option_and_then passage_in fifo_state)) (ended-is history phase n)
       ∙ sized-ended n phase (fifo_size (wiring_of history) n) (drop (items_left history n) (items_entered history n)) (puts_waiting history n) (takes_waiting history n) (u.others n is);
   held = u.held;
 }
 
 -- before any entry
-pub stations-first : {kept : Kept} → kept.entries ≡ [] → AreStations (station_at []) kept
-stations-first empty = record { each = λ n. ap (lookup (nat_eq n)) empty }
+pub fifo_states-first : {kept : FifoMap} → kept.entries ≡ [] → AreFifoStates (fifo_state_at []) kept
+fifo_states-first empty = record { each = λ n. ap (lookup (nat_eq n)) empty }
 
-asked-first : {Wish : Type 0} → AreAsked {Wish = Wish} 0 [] []
-asked-first {Wish} = record { apart = λ i j d lt within. absurd (omega (arith, within)); within = All-nil (λ (request : Request Wish). request.asker.place < 0); answered_within = All-nil (λ place. place < 0) }
+asked-first : {Payload : Type 0} → AreAsked {Payload = Payload} 0 [] []
+asked-first {Payload} = record { apart = λ i j d lt within. absurd (omega (arith, within)); within = All-nil (λ (request : Request Payload). request.requester.place < 0); answered_within = All-nil (λ place. place < 0) }
 
 pub passed-first : ArePassed 0 (fifo_size (wiring_of [])) (items_entered []) (items_left []) (puts_asked []) (answered_at is_put []) (takes_asked []) (answered_at is_no_put [])
 passed-first = record { each = λ n. record { few = omega arith; are_puts = asked-first; are_takes = asked-first; no_item = λ e. refl; no_put = λ e. refl; no_take = λ e. refl } }

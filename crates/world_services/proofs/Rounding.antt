@@ -1,55 +1,33 @@
 -- Whose turn it is in the phases in progress, over lists alone.
-use Rattle.std.proofs.Common.{◌≡◌, ℕ, Bool, true, false, not, List, [], ◌∷◌, ◌++◌, ◌||◌, length, filter, All, Some, None, refl, ap, sym, ◌∙◌, subst, if◌then◌else◌}
-use Rattle.std.proofs.lemmas.List.Elements.{All-nil, All-cons, All-head, All-tail, filter-append}
-use Rattle.std.specs.List.{list_any}
-use Rattle.uvm_glob.specs.declared.orders.Direction.{Direction}
-use Rattle.uvm_glob.specs.declared.orders.Direction.TheVariants.{Down, Up}
-use Rattle.uvm_glob.specs.Orders.{PathOrder, down_cmp, order_of, up_cmp}
-use Rattle.uvm_phase.specs.declared.phases.Phase.{Phase}
-use Rattle.uvm_phase.specs.declared.phases.Phase.TheVariants.{PreReset, Run}
-use Rattle.uvm_phase.specs.Phases.{is_runtime, is_top_down, same_phase}
-use Rattle.uvm_tree.specs.Cursors.{IsLeast, LeastIsLeast, OrdersNodes, is_before, least, node_cmp}
-use Rattle.uvm_tree.specs.Nodes.{Node, top}
-use Rattle.uvm_acts.specs.Acts.{node_of}
-use Rattle.uvm_acts.specs.declared.acts.Call.{Call}
+use Rattle.world_services.proofs.Common.{◌≡◌, ℕ, Bool, true, false, not, List, [], ◌∷◌, ◌++◌, ◌||◌, length, filter, All, Some, None, refl, ap, sym, ◌∙◌, subst, if◌then◌else◌, All-nil, All-cons, All-head, All-tail, filter-append, list_any, Direction, Down, Up, PathOrder, down_cmp, order_of, up_cmp, Phase, PreReset, Run, is_runtime, is_top_down, same_phase, IsLeast, LeastIsLeast, OrdersNodes, is_before, least, node_cmp, top, node_of, Call, Entry, Begin, Heard, RunStage, Before, During, After, Ended, components_called, calls_sort, had_call, in_progress, phase_order, running, same_sort, same-phase, PhaseCursors, PhaseCursor, ArePhaseCursor, IsHeardIn, ArePhaseCursors, AreSamePhaseCursors, HasBegunRound, IsHeardInPhaseCursors, IsMadeInPhaseCursors, going_like, phase_cursor_in, Node}
 use Rattle.uvm_acts.specs.declared.acts.Call.TheVariants as calls
-use Rattle.uvm_object.specs.declared.entries.Entry.{Entry}
-use Rattle.uvm_object.specs.declared.entries.Entry.TheVariants.{Begin, Heard}
-use Rattle.bench_history.specs.declared.stages.Stage.{Stage}
-use Rattle.bench_history.specs.declared.stages.Stage.TheVariants.{Before, During, After, Ended}
-use Rattle.bench_history.specs.History.{called_of, calls_sort, had_call, in_progress, phase_order, running, same_sort}
-use Rattle.world_agenda.proofs.Drained.{same-phase}
-use Rattle.world_services.specs.declared.rounds.Rounds.{Rounds}
-use Rattle.world_services.specs.declared.turns.Turns.{Turns}
-use Rattle.world_services.specs.Turns.{AreTurns, IsHeardIn}
-use Rattle.world_services.specs.Rounds.{AreRounds, AreSameRounds, HasBegunRound, IsHeardInRounds, IsMadeInRounds, going_like, turns_in}
-use Rattle.world_services.proofs.Waiting.{turns-begin, turns-going, turns-heard, turns-made, turns-more, turns-none, turns-same}
+use Rattle.world_services.proofs.Waiting.{phase_cursor-begin, phase_cursor-going, phase_cursor-heard, phase_cursor-made, phase_cursor-more, phase_cursor-none, phase_cursor-same}
 
-pub rounds-first : {kept : Rounds} → (kept.common.last ≡ None) × (kept.runtime.last ≡ None) → (kept.common.late.items ≡ []) × (kept.runtime.late.items ≡ []) → AreRounds Before (top ∷ []) [] (λ phase. []) kept
-rounds-first last late = record { common = turns-none last.0 late.0; runtime = turns-none last.1 late.1 }
+pub phase_cursors-first : {kept : PhaseCursors} → (kept.common.last ≡ None) × (kept.runtime.last ≡ None) → (kept.common.late.items ≡ []) × (kept.runtime.late.items ≡ []) → ArePhaseCursors Before (top ∷ []) [] (λ phase. []) kept
+phase_cursors-first last late = record { common = phase_cursor-none last.0 late.0; runtime = phase_cursor-none last.1 late.1 }
 
-pub rounds-same : {stage : Stage} {nodes : List Node} {components : List ℕ} {called : Phase → List ℕ} {old new : Rounds} → AreSameRounds old new → AreRounds stage nodes components called old → AreRounds stage nodes components called new
-rounds-same same rounds = record { common = turns-same same.common rounds.common; runtime = turns-same same.runtime rounds.runtime }
+pub phase_cursors-same : {stage : RunStage} {nodes : List Node} {components : List ℕ} {called : Phase → List ℕ} {old new : PhaseCursors} → AreSamePhaseCursors old new → ArePhaseCursors stage nodes components called old → ArePhaseCursors stage nodes components called new
+phase_cursors-same same phase_cursors = record { common = phase_cursor-same same.common phase_cursors.common; runtime = phase_cursor-same same.runtime phase_cursors.runtime }
 
 -- a node is added that is no component
-pub rounds-more : {stage : Stage} {nodes : List Node} {components : List ℕ} {called : Phase → List ℕ} {kept : Rounds} (x : Node) → AreRounds stage nodes components called kept → AreRounds stage (nodes ++ x ∷ []) components called kept
-rounds-more x rounds = record { common = turns-more x rounds.common; runtime = turns-more x rounds.runtime }
+pub phase_cursors-more : {stage : RunStage} {nodes : List Node} {components : List ℕ} {called : Phase → List ℕ} {kept : PhaseCursors} (x : Node) → ArePhaseCursors stage nodes components called kept → ArePhaseCursors stage (nodes ++ x ∷ []) components called kept
+phase_cursors-more x phase_cursors = record { common = phase_cursor-more x phase_cursors.common; runtime = phase_cursor-more x phase_cursors.runtime }
 
 -- or one
-pub rounds-made :
-    {stage : Stage} {nodes : List Node} {components : List ℕ} {called : Phase → List ℕ} {kept new : Rounds} (x : Node) → AreRounds stage nodes components called kept → IsMadeInRounds (nodes ++ x ∷ []) (length nodes) kept new
-    → AreRounds stage (nodes ++ x ∷ []) (components ++ length nodes ∷ []) called new
-rounds-made x rounds made = record { common = turns-made x rounds.common made.common; runtime = turns-made x rounds.runtime made.runtime }
+pub phase_cursors-made :
+    {stage : RunStage} {nodes : List Node} {components : List ℕ} {called : Phase → List ℕ} {kept new : PhaseCursors} (x : Node) → ArePhaseCursors stage nodes components called kept → IsMadeInPhaseCursors (nodes ++ x ∷ []) (length nodes) kept new
+    → ArePhaseCursors stage (nodes ++ x ∷ []) (components ++ length nodes ∷ []) called new
+phase_cursors-made x phase_cursors made = record { common = phase_cursor-made x phase_cursors.common made.common; runtime = phase_cursor-made x phase_cursors.runtime made.runtime }
 
 -- two phases of one sort have the same calls
 called-alike-in : (phase other : Phase) (node : ℕ) (rest others : List ℕ) (call : Call) → is_runtime phase ≡ is_runtime other → rest ≡ others → (if calls_sort phase call then node ∷ rest else rest) ≡ (if calls_sort other call then node ∷ others else others)
 called-alike-in phase other node rest others (calls.Phase heard) same is = rw (is, same) refl
 called-alike-in phase other node rest others call same is = is
 
-pub called-alike : (phase other : Phase) (history : List Entry) → is_runtime phase ≡ is_runtime other → called_of phase history ≡ called_of other history
+pub called-alike : (phase other : Phase) (history : List Entry) → is_runtime phase ≡ is_runtime other → components_called phase history ≡ components_called other history
 called-alike phase other [] same = refl
 called-alike phase other (Begin begun ∷ before) same = let rest = called-alike phase other before same in rw (rest, same) refl
-called-alike phase other (Heard hearer None call acts ∷ before) same = called-alike-in phase other (node_of hearer) (called_of phase before) (called_of other before) call same (called-alike phase other before same)
+called-alike phase other (Heard hearer None call acts ∷ before) same = called-alike-in phase other (node_of hearer) (components_called phase before) (components_called other before) call same (called-alike phase other before same)
 called-alike phase other (Heard hearer (Some origin) call acts ∷ before) same = called-alike phase other before same
 called-alike phase other (entry ∷ before) same = called-alike phase other before same
 
@@ -80,11 +58,11 @@ module _ (phase : Phase) where
       by true = refl
       by false = refl
 
-turns-as : {going other : List Phase} {nodes : List Node} {components called calls : List ℕ} {kept same : Turns} → going ≡ other → called ≡ calls → kept ≡ same → AreTurns other nodes components calls same → AreTurns going nodes components called kept
-turns-as in_it called is turns = rw (in_it, called, is) turns
+phase_cursor-as : {going other : List Phase} {nodes : List Node} {components called calls : List ℕ} {kept same : PhaseCursor} → going ≡ other → called ≡ calls → kept ≡ same → ArePhaseCursor other nodes components calls same → ArePhaseCursor going nodes components called kept
+phase_cursor-as in_it called is phase_cursors = rw (in_it, called, is) phase_cursors
 
 -- a phase begins
-module _ {nodes : List Node} {components : List ℕ} {called : Phase → List ℕ} {old new : Rounds} (stage : Stage) (phase : Phase) (begun : HasBegunRound phase old new) (rounds : AreRounds stage nodes components called old) where
+module _ {nodes : List Node} {components : List ℕ} {called : Phase → List ℕ} {old new : PhaseCursors} (stage : RunStage) (phase : Phase) (begun : HasBegunRound phase old new) (phase_cursors : ArePhaseCursors stage nodes components called old) where
   abbrev called_then : Phase → List ℕ
   called_then sort = if same_sort phase sort then [] else called sort
 
@@ -100,15 +78,15 @@ module _ {nodes : List Node} {components : List ℕ} {called : Phase → List �
       append-none [] = refl
       append-none (x ∷ xs) = ap (λ (ys : List Phase). x ∷ ys) (append-none xs)
 
-  begun-by : (b : Bool) → is_runtime phase ≡ b → in_progress (During phase) ≡ in_progress stage ++ phase ∷ [] → AreRounds (During phase) nodes components called_then new
+  begun-by : (b : Bool) → is_runtime phase ≡ b → in_progress (During phase) ≡ in_progress stage ++ phase ∷ [] → ArePhaseCursors (During phase) nodes components called_then new
   begun-by true beside behind =
       let direction : order_of new.runtime.direction ≡ phase_order phase = rw beside at begun.direction in
       let last : new.runtime.last ≡ None = rw beside at begun.last in
       let late : new.runtime.late.items ≡ [] = rw beside at begun.late in
       let stays : new.common ≡ old.common = rw beside at begun.beside in
       record {
-        common = turns-as (beside-run phase beside ∙ run-stays beside behind) (then-is false Run (rw beside refl)) stays rounds.common;
-        runtime = turns-as (beside-self phase beside) (then-is true PreReset (rw beside refl)) refl (turns-begin (All-cons (λ one. order_of new.runtime.direction ≡ phase_order one) phase [] direction (All-nil _)) last late rounds.runtime);
+        common = phase_cursor-as (beside-run phase beside ∙ run-stays beside behind) (then-is false Run (rw beside refl)) stays phase_cursors.common;
+        runtime = phase_cursor-as (beside-self phase beside) (then-is true PreReset (rw beside refl)) refl (phase_cursor-begin (All-cons (λ one. order_of new.runtime.direction ≡ phase_order one) phase [] direction (All-nil _)) last late phase_cursors.runtime);
       }
   begun-by false common behind =
       let direction : order_of new.common.direction ≡ phase_order phase = rw common at begun.direction in
@@ -116,15 +94,15 @@ module _ {nodes : List Node} {components : List ℕ} {called : Phase → List �
       let late : new.common.late.items ≡ [] = rw common at begun.late in
       let stays : new.runtime ≡ old.runtime = rw common at begun.beside in
       record {
-        common = turns-as (common-self phase common) (then-is true Run (rw common refl)) refl (turns-begin (All-cons (λ one. order_of new.common.direction ≡ phase_order one) phase [] direction (All-nil _)) last late rounds.common);
-        runtime = turns-as (common-none phase common) (then-is false PreReset (rw common refl)) stays (turns-going (All-nil _) rounds.runtime);
+        common = phase_cursor-as (common-self phase common) (then-is true Run (rw common refl)) refl (phase_cursor-begin (All-cons (λ one. order_of new.common.direction ≡ phase_order one) phase [] direction (All-nil _)) last late phase_cursors.common);
+        runtime = phase_cursor-as (common-none phase common) (then-is false PreReset (rw common refl)) stays (phase_cursor-going (All-nil _) phase_cursors.runtime);
       }
 
-  pub rounds-begun : in_progress (During phase) ≡ in_progress stage ++ phase ∷ [] → AreRounds (During phase) nodes components called_then new
-  rounds-begun behind = begun-by (is_runtime phase) refl behind
+  pub phase_cursors-begun : in_progress (During phase) ≡ in_progress stage ++ phase ∷ [] → ArePhaseCursors (During phase) nodes components called_then new
+  phase_cursors-begun behind = begun-by (is_runtime phase) refl behind
 
 -- or ends
-ended-run : (stage : Stage) (phase : Phase) → running stage ≡ Some phase → is_runtime phase ≡ true → going_like Run stage ≡ Run ∷ []
+ended-run : (stage : RunStage) (phase : Phase) → running stage ≡ Some phase → is_runtime phase ≡ true → going_like Run stage ≡ Run ∷ []
 ended-run Before phase runs beside = cc
 ended-run Ended phase runs beside = cc
 ended-run (During other) phase runs beside = let same : other ≡ phase = cc in subst (λ (p : Phase). going_like Run (During p) ≡ Run ∷ []) (sym same) (beside-run phase beside)
@@ -134,17 +112,17 @@ ended-run (After other) phase runs beside = by (is_runtime other) runs
     by true e = let same : Run ≡ phase = cc in let clash : is_runtime Run ≡ true = ap is_runtime same ∙ beside in cc
     by false e = cc
 
-pub rounds-ended :
-    {nodes : List Node} {components : List ℕ} {called : Phase → List ℕ} {kept : Rounds} (stage : Stage) (phase : Phase) → running stage ≡ Some phase → AreRounds stage nodes components called kept → AreRounds (After phase) nodes components called kept
-rounds-ended {nodes} {components} {called} {kept} stage phase runs rounds = by (is_runtime phase) refl
+pub phase_cursors-ended :
+    {nodes : List Node} {components : List ℕ} {called : Phase → List ℕ} {kept : PhaseCursors} (stage : RunStage) (phase : Phase) → running stage ≡ Some phase → ArePhaseCursors stage nodes components called kept → ArePhaseCursors (After phase) nodes components called kept
+phase_cursors-ended {nodes} {components} {called} {kept} stage phase runs phase_cursors = by (is_runtime phase) refl
   where
-    by : (b : Bool) → is_runtime phase ≡ b → AreRounds (After phase) nodes components called kept
-    by true beside = record { common = turns-as (after-run phase beside ∙ sym (ended-run stage phase runs beside)) refl refl rounds.common; runtime = turns-as (after-runtime phase) refl refl (turns-going (All-nil _) rounds.runtime) }
-    by false common = record { common = turns-as (after-none phase common) refl refl (turns-going (All-nil _) rounds.common); runtime = turns-as (after-runtime phase) refl refl (turns-going (All-nil _) rounds.runtime) }
+    by : (b : Bool) → is_runtime phase ≡ b → ArePhaseCursors (After phase) nodes components called kept
+    by true beside = record { common = phase_cursor-as (after-run phase beside ∙ sym (ended-run stage phase runs beside)) refl refl phase_cursors.common; runtime = phase_cursor-as (after-runtime phase) refl refl (phase_cursor-going (All-nil _) phase_cursors.runtime) }
+    by false common = record { common = phase_cursor-as (after-none phase common) refl refl (phase_cursor-going (All-nil _) phase_cursors.common); runtime = phase_cursor-as (after-runtime phase) refl refl (phase_cursor-going (All-nil _) phase_cursors.runtime) }
 
 -- with the end of the run
-pub rounds-over : {nodes : List Node} {components : List ℕ} {called : Phase → List ℕ} {kept : Rounds} {stage : Stage} → AreRounds stage nodes components called kept → AreRounds Ended nodes components called kept
-rounds-over rounds = record { common = turns-going (All-nil _) rounds.common; runtime = turns-going (All-nil _) rounds.runtime }
+pub phase_cursors-over : {nodes : List Node} {components : List ℕ} {called : Phase → List ℕ} {kept : PhaseCursors} {stage : RunStage} → ArePhaseCursors stage nodes components called kept → ArePhaseCursors Ended nodes components called kept
+phase_cursors-over phase_cursors = record { common = phase_cursor-going (All-nil _) phase_cursors.common; runtime = phase_cursor-going (All-nil _) phase_cursors.runtime }
 
 -- a call was heard by whoever's turn it was
 tail-of : (P : Phase → Type 0) (b : Bool) (x : Phase) (xs : List Phase) → All P (if b then x ∷ xs else xs) → All P xs
@@ -173,24 +151,24 @@ phase-direction phase = by (is_top_down phase)
     by true = (Down, refl)
     by false = (Up, refl)
 
-module _ {nodes : List Node} {components : List ℕ} {called : Phase → List ℕ} {old new : Rounds} (stage : Stage) (phase : Phase) (node : ℕ) (going : list_any (same_phase phase) (in_progress stage) ≡ true) (heard : IsHeardInRounds phase node old new)
-    (orders : (direction : Direction) → OrdersNodes nodes (node_cmp (order_of direction) nodes)) (leasts : LeastIsLeast) (rounds : AreRounds stage nodes components called old) where
+module _ {nodes : List Node} {components : List ℕ} {called : Phase → List ℕ} {old new : PhaseCursors} (stage : RunStage) (phase : Phase) (node : ℕ) (going : list_any (same_phase phase) (in_progress stage) ≡ true) (heard : IsHeardInPhaseCursors phase node old new)
+    (orders : (direction : Direction) → OrdersNodes nodes (node_cmp (order_of direction) nodes)) (leasts : LeastIsLeast) (phase_cursors : ArePhaseCursors stage nodes components called old) where
   abbrev uncalled_in : Phase → List ℕ
   uncalled_in sort = filter (λ n. not (had_call (called sort) n)) components
 
   abbrev heard_then : Phase → List ℕ
   heard_then sort = if same_sort phase sort then node ∷ called sort else called sort
 
-  heard-in : (sort : Phase) {kept after : Turns} → AreTurns (going_like sort stage) nodes components (called sort) kept → same_sort sort phase ≡ true → IsHeardIn node kept after → least (is_before (phase_order phase) nodes) (uncalled_in sort) ≡ Some node
-      → AreTurns (going_like sort stage) nodes components (node ∷ called sort) after
-  heard-in sort {kept} turns like is turn =
-      let order : order_of kept.direction ≡ phase_order phase = going-holds (λ one. order_of kept.direction ≡ phase_order one) sort phase (in_progress stage) turns.direction like going in
+  heard-in : (sort : Phase) {kept after : PhaseCursor} → ArePhaseCursor (going_like sort stage) nodes components (called sort) kept → same_sort sort phase ≡ true → IsHeardIn node kept after → least (is_before (phase_order phase) nodes) (uncalled_in sort) ≡ Some node
+      → ArePhaseCursor (going_like sort stage) nodes components (node ∷ called sort) after
+  heard-in sort {kept} phase_cursors like is turn =
+      let order : order_of kept.direction ≡ phase_order phase = going-holds (λ one. order_of kept.direction ≡ phase_order one) sort phase (in_progress stage) phase_cursors.direction like going in
       let first = leasts (node_cmp (order_of kept.direction) nodes) (orders kept.direction).total (uncalled_in sort) in
       let found : least (is_before (order_of kept.direction) nodes) (uncalled_in sort) ≡ Some node = ap (λ (o : PathOrder). least (is_before o nodes) (uncalled_in sort)) order ∙ turn in
-      turns-heard node turns is (orders kept.direction) (subst (IsLeast (is_before (order_of kept.direction) nodes) (uncalled_in sort)) found first)
+      phase_cursor-heard node phase_cursors is (orders kept.direction) (subst (IsLeast (is_before (order_of kept.direction) nodes) (uncalled_in sort)) found first)
 
-  pub rounds-heard : ((sort : Phase) → is_runtime phase ≡ is_runtime sort → called phase ≡ called sort) → least (is_before (phase_order phase) nodes) (uncalled_in phase) ≡ Some node → AreRounds stage nodes components heard_then new
-  rounds-heard alike turn = by (is_runtime phase) refl
+  pub phase_cursors-heard : ((sort : Phase) → is_runtime phase ≡ is_runtime sort → called phase ≡ called sort) → least (is_before (phase_order phase) nodes) (uncalled_in phase) ≡ Some node → ArePhaseCursors stage nodes components heard_then new
+  phase_cursors-heard alike turn = by (is_runtime phase) refl
     where
       heard-is : (b : Bool) (sort : Phase) → same_sort phase sort ≡ b → heard_then sort ≡ (if b then node ∷ called sort else called sort)
       heard-is b sort is = ap (λ (b : Bool). if b then node ∷ called sort else called sort) is
@@ -198,22 +176,22 @@ module _ {nodes : List Node} {components : List ℕ} {called : Phase → List �
       turn-in : (sort : Phase) → is_runtime phase ≡ is_runtime sort → least (is_before (phase_order phase) nodes) (uncalled_in sort) ≡ Some node
       turn-in sort same = ap (λ (called : List ℕ). least (is_before (phase_order phase) nodes) (filter (λ n. not (had_call called n)) components)) (sym (alike sort same)) ∙ turn
 
-      by : (b : Bool) → is_runtime phase ≡ b → AreRounds stage nodes components heard_then new
+      by : (b : Bool) → is_runtime phase ≡ b → ArePhaseCursors stage nodes components heard_then new
       by true beside =
           let stays : new.common ≡ old.common = rw beside at heard.beside in
           let in_it : IsHeardIn node old.runtime new.runtime = rw beside at heard.heard in
-          record { common = turns-as refl (heard-is false Run (rw beside refl)) stays rounds.common; runtime = turns-as refl (heard-is true PreReset (rw beside refl)) refl (heard-in PreReset rounds.runtime beside in_it (turn-in PreReset beside)) }
+          record { common = phase_cursor-as refl (heard-is false Run (rw beside refl)) stays phase_cursors.common; runtime = phase_cursor-as refl (heard-is true PreReset (rw beside refl)) refl (heard-in PreReset phase_cursors.runtime beside in_it (turn-in PreReset beside)) }
       by false common =
           let stays : new.runtime ≡ old.runtime = rw common at heard.beside in
           let in_it : IsHeardIn node old.common new.common = rw common at heard.heard in
-          record { common = turns-as refl (heard-is true Run (rw common refl)) refl (heard-in Run rounds.common (rw common refl) in_it (turn-in Run common)); runtime = turns-as refl (heard-is false PreReset (rw common refl)) stays rounds.runtime }
+          record { common = phase_cursor-as refl (heard-is true Run (rw common refl)) refl (heard-in Run phase_cursors.common (rw common refl) in_it (turn-in Run common)); runtime = phase_cursor-as refl (heard-is false PreReset (rw common refl)) stays phase_cursors.runtime }
 
 -- those of a phase
-pub turns-of :
-    {stage : Stage} {nodes : List Node} {components : List ℕ} {called : Phase → List ℕ} {kept : Rounds} (phase : Phase) → ((sort : Phase) → is_runtime phase ≡ is_runtime sort → called sort ≡ called phase) → AreRounds stage nodes components called kept
-    → (going : List Phase) × AreTurns going nodes components (called phase) (turns_in phase kept)
-turns-of {stage} {nodes} {components} {called} {kept} phase alike rounds = by (is_runtime phase) refl
+pub phase_cursor-of :
+    {stage : RunStage} {nodes : List Node} {components : List ℕ} {called : Phase → List ℕ} {kept : PhaseCursors} (phase : Phase) → ((sort : Phase) → is_runtime phase ≡ is_runtime sort → called sort ≡ called phase) → ArePhaseCursors stage nodes components called kept
+    → (going : List Phase) × ArePhaseCursor going nodes components (called phase) (phase_cursor_in phase kept)
+phase_cursor-of {stage} {nodes} {components} {called} {kept} phase alike phase_cursors = by (is_runtime phase) refl
   where
-    by : (b : Bool) → is_runtime phase ≡ b → (going : List Phase) × AreTurns going nodes components (called phase) (if b then kept.runtime else kept.common)
-    by true beside = (going_like PreReset stage, rw (← alike PreReset beside) rounds.runtime)
-    by false common = (going_like Run stage, rw (← alike Run common) rounds.common)
+    by : (b : Bool) → is_runtime phase ≡ b → (going : List Phase) × ArePhaseCursor going nodes components (called phase) (if b then kept.runtime else kept.common)
+    by true beside = (going_like PreReset stage, rw (← alike PreReset beside) phase_cursors.runtime)
+    by false common = (going_like Run stage, rw (← alike Run common) phase_cursors.common)

@@ -1,33 +1,7 @@
 -- The objection of a phase changes, and the drains that begin and end with that.
-use Rattle.std.proofs.Common.{◌≡◌, ◌<◌, ◌≤◌, ◌*◌, ◌∷◌, [], ℕ, suc, Bool, true, false, not, ◌==◌, List, length, filter, Option, Some, All, refl, sym, ap, ◌∙◌, subst, arith, if◌then◌else◌, ◌++◌}
-use Rattle.std.specs.List.{flat_map, list_any}
-use Rattle.std.specs.Option.{option_to_list}
-use Rattle.std.proofs.lemmas.Bool.Decides.{nat_tests}
-use Rattle.uvm_phase.specs.declared.phases.Phase.{Phase}
-use Rattle.uvm_phase.specs.Phases.{is_task, phase_number, same_phase}
-use Rattle.uvm_phase.specs.Dues.{in_order}
-use Rattle.uvm_objection.specs.Nodes.{Node, due_of, new_node, released, with_drain}
-use Rattle.uvm_objection.specs.Totals.{total, settled, drains_begun, drains_ended}
-use Rattle.uvm_objection.specs.Laws.{BegunDrainsAreHeld, GrowsBy, IsHeldUntilDue, NodesGrow, PlacesStay, SettledGoByTotals, places}
+use Rattle.world_services.proofs.Common.{◌≡◌, ◌<◌, ◌≤◌, ◌*◌, ◌∷◌, [], ℕ, suc, Bool, true, false, not, ◌==◌, List, length, filter, Option, Some, All, refl, sym, ap, ◌∙◌, subst, arith, if◌then◌else◌, ◌++◌, flat_map, list_any, option_to_list, nat_tests, Phase, is_task, phase_number, same_phase, in_order, due_of, new_node, released, with_drain, total, settled, drains_begun, drains_ended, BegunDrainsAreHeld, GrowsBy, IsHeldUntilDue, NodesGrow, PlacesStay, SettledGoByTotals, places, Entry, Drained, Origin, Drain, ScriptValue, caused_at, scheduled_events, drain_from, delivered_causes, is_open, with_drains_of, ended_of, nodes_of, now_of, objections_of, with_new, Event, is_drain_of, finished_of, ObjectionsValue, OthersStay, nodes_at, nodes_in, of-each, parted, IsAgenda, AreEvents, AreNumbered, IsObjecting, moved, same-phase, objecting-changed, objecting-later, objecting-made, objecting-same, Services, AreObjecting, ServicesMatch}
+use Rattle.uvm_objection.specs.Nodes.{Node}
 use Rattle.uvm_objection.specs.declared.objections.Due as drain
-use Rattle.uvm_object.specs.declared.entries.Entry.{Entry}
-use Rattle.uvm_object.specs.declared.entries.Entry.TheVariants.{Drained}
-use Rattle.uvm_object.specs.declared.entries.Origin.{Origin}
-use Rattle.script_tables.specs.declared.drains.Drain.{Drain}
-use Rattle.bench_script.specs.Scripts.{ScriptValue}
-use Rattle.bench_history.specs.Dues.{caused_at, caused_of, drain_from, heard_of, is_open, with_drains_of}
-use Rattle.bench_history.specs.History.{ended_of, nodes_of, now_of}
-use Rattle.bench_history.specs.Objections.{objections_of, with_new}
-use Rattle.bench_history.specs.Owners.{Event, is_drain_of}
-use Rattle.bench_history.specs.Sequences.{finished_of}
-use Rattle.world_objections.specs.Phased.{ObjectionsValue, OthersStay, nodes_at, nodes_in}
-use Rattle.world_objections.proofs.Placed.{of-each, parted}
-use Rattle.world_agenda.specs.Agendas.{IsAgenda}
-use Rattle.world_agenda.specs.Objectings.{AreEvents, AreNumbered, IsObjecting}
-use Rattle.world_agenda.proofs.Drained.{moved, same-phase}
-use Rattle.world_agenda.proofs.Objected.{objecting-changed, objecting-later, objecting-made, objecting-same}
-use Rattle.world_services.specs.declared.services.Services.{Services}
-use Rattle.world_services.specs.Services.{AreObjecting, ServicesMatch}
 
 pub itself : (phase : Phase) → same_phase phase phase ≡ true
 itself phase = grind (arith, nat_tests)
@@ -102,8 +76,8 @@ objectings-one script {history} {entry} {phase} {others} {old} new stay was task
 
 -- what is due with the entry, if it is of this phase, and what is kept of objections
 pub record HasSettled (script : ScriptValue) (history : List Entry) (entry : Entry) (acting : Option Phase) (objections : ObjectionsValue) (dues : List Event) : Type 0 where
-  pub agenda : IsAgenda (with_drains_of script acting entry history (caused_of script history)) (heard_of history) (ended_of history) (finished_of history) (suc (length history)) dues
-  pub events : AreEvents (λ phase. objections_of script phase (entry ∷ history)) (filter (is_open (heard_of history) (ended_of history) (finished_of history)) (with_drains_of script acting entry history (caused_of script history)))
+  pub agenda : IsAgenda (with_drains_of script acting entry history (scheduled_events script history)) (delivered_causes history) (ended_of history) (finished_of history) (suc (length history)) dues
+  pub events : AreEvents (λ phase. objections_of script phase (entry ∷ history)) (filter (is_open (delivered_causes history) (ended_of history) (finished_of history)) (with_drains_of script acting entry history (scheduled_events script history)))
   pub objecting : AreObjecting script.drains (λ phase. objections_of script phase (entry ∷ history)) (length (nodes_of history)) (suc (length history)) objections
 
 pub settling :
@@ -118,13 +92,13 @@ pub settling :
     → drains_begun (objections_of script phase history) (settled (now_of history) (total (objections_of script phase history)) changed) ≡ option_to_list began
     → drains_ended (objections_of script phase history) (settled (now_of history) (total (objections_of script phase history)) changed) ≡ option_to_list ends
     → list_any (same_phase phase) (ended_of history) ≡ false
-    → more ≡ in_order (flat_map (drain_from phase (caused_at (length history))) (option_to_list began) ++ filter (λ event. not (is_drain_of phase (option_to_list ends) event.owner)) (filter (is_open (heard_of history) (ended_of history) (finished_of history)) (caused_of script history)))
+    → more ≡ in_order (flat_map (drain_from phase (caused_at (length history))) (option_to_list began) ++ filter (λ event. not (is_drain_of phase (option_to_list ends) event.owner)) (filter (is_open (delivered_causes history) (ended_of history) (finished_of history)) (scheduled_events script history)))
     → HasSettled script history entry acting new more
 settling {script} {history} entry phase acting changed began ends new more raised settles stay begins m acts task changes same is rest stays low grown keeps begun over unended dues =
     let nodes = objections_of script phase history in
     let others = settled (now_of history) (total nodes) changed in
     let held : All (IsHeldUntilDue others) (option_to_list began) = rw (← begun) (begins nodes others grown.nodes) in
-    let drains = moved (now_of history) (λ p. objections_of script p history) (λ p. objections_of script p (entry ∷ history)) changed phase began ends (caused_of script history) (heard_of history) (ended_of history) (finished_of history) (length history) _ more
+    let drains = moved (now_of history) (λ p. objections_of script p history) (λ p. objections_of script p (entry ∷ history)) changed phase began ends (scheduled_events script history) (delivered_causes history) (ended_of history) (finished_of history) (length history) _ more
     settles stay (m.objections.each phase task).are_nodes (rw changes.one same) changes.one (λ other apart. changes.rest other (either other phase apart)) keeps (rw changes.one begun) (rw changes.one over) task (rw changes.one held) unended m.agenda m.events dues in
     subst (λ (a : Option Phase). HasSettled script history entry a new more) (sym acts) (record {
       agenda = drains.agenda;

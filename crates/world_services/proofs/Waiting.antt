@@ -1,22 +1,5 @@
 -- Whose turn it is, over lists alone.
-use Rattle.std.proofs.Common.{◌≡◌, ◌<◌, ℕ, zero, suc, Bool, true, false, not, ◌||◌, ◌&&◌, ◌==◌, List, [], ◌∷◌, ◌++◌, length, filter, slice_get, All, Contains, Option, Some, None, is_some, IfSome, refl, ap, sym, ◌∙◌, subst, arith, if◌then◌else◌}
-use Rattle.std.proofs.lemmas.Bool.{eqb-true}
-use Rattle.std.proofs.lemmas.Bool.Decides.{nat_tests}
-use Rattle.std.proofs.lemmas.List.{length-append}
-use Rattle.std.proofs.lemmas.List.Elements.{All-nil, All-cons, All-push, All-weaker, All-contains, All-contains_itself, All-filter, All-head, All-tail, Contains-get_or, Contains-append_left, Contains-push, filter_passes}
-use Rattle.std.proofs.lemmas.List.Folds.{list_any_none}
-use Rattle.std.proofs.lemmas.Map.Views.{any-filter_same}
-use Rattle.std.specs.List.{list_any}
-use Rattle.std.specs.declared.cmp.Ordering.{Ordering}
-use Rattle.std.specs.declared.cmp.Ordering.TheVariants.{Less, Equal, Greater}
-use Rattle.std.specs.Ordering.{is_lt, ordering_reverse}
-use Rattle.uvm_glob.specs.Orders.{PathOrder, order_of}
-use Rattle.uvm_tree.specs.Cursors.{IsLeast, OrdersNodes, is_after, is_before, node_cmp}
-use Rattle.uvm_tree.specs.Nodes.{Node, top}
-use Rattle.uvm_phase.specs.declared.phases.Phase.{Phase}
-use Rattle.bench_history.specs.History.{had_call, phase_order}
-use Rattle.world_services.specs.declared.turns.Turns.{Turns}
-use Rattle.world_services.specs.Turns.{AreSameTurns, AreTurns, IsHeardIn, IsMadeIn, last_heard, waits}
+use Rattle.world_services.proofs.Common.{◌≡◌, ◌<◌, ℕ, zero, suc, Bool, true, false, not, ◌||◌, ◌&&◌, ◌==◌, List, [], ◌∷◌, ◌++◌, length, filter, slice_get, All, Contains, Option, Some, None, is_some, IfSome, refl, ap, sym, ◌∙◌, subst, arith, if◌then◌else◌, eqb-true, nat_tests, All-nil, All-cons, All-push, All-weaker, All-contains, All-contains_itself, All-filter, All-head, All-tail, Contains-get_or, Contains-append_left, Contains-push, filter_passes, list_any_none, any-filter_same, list_any, Ordering, Less, Equal, Greater, is_lt, ordering_reverse, PathOrder, order_of, IsLeast, OrdersNodes, is_after, is_before, node_cmp, top, Phase, had_call, phase_order, PhaseCursor, AreSamePhaseCursor, ArePhaseCursor, IsHeardIn, IsMadeIn, last_heard, waits, length-append, Node}
 
 -- a node behind the others leaves their paths
 get-before : (xs ys : List Node) (k : ℕ) → k < length xs → slice_get (xs ++ ys) k ≡ slice_get xs k
@@ -28,20 +11,20 @@ after-more : (order : PathOrder) (nodes : List Node) (x : Node) (last : Option �
 after-more order nodes x None n within lt = refl
 after-more order nodes x (Some last) n within lt = rw (get-before nodes (x ∷ []) last within, get-before nodes (x ∷ []) n lt) refl
 
-pub turns-same : {going : List Phase} {nodes : List Node} {components called : List ℕ} {old new : Turns} → AreSameTurns old new → AreTurns going nodes components called old → AreTurns going nodes components called new
-turns-same same turns = record {
-  direction = rw same.direction turns.direction;
-  waiting = rw (same.direction, same.last, same.late) turns.waiting;
-  behind = rw (same.direction, same.last, same.late) turns.behind;
-  known = rw same.late turns.known;
-  last = rw same.last turns.last;
-  within = turns.within;
-  called_within = turns.called_within;
+pub phase_cursor-same : {going : List Phase} {nodes : List Node} {components called : List ℕ} {old new : PhaseCursor} → AreSamePhaseCursor old new → ArePhaseCursor going nodes components called old → ArePhaseCursor going nodes components called new
+phase_cursor-same same phase_cursors = record {
+  direction = rw same.direction phase_cursors.direction;
+  waiting = rw (same.direction, same.last, same.late) phase_cursors.waiting;
+  behind = rw (same.direction, same.last, same.late) phase_cursors.behind;
+  known = rw same.late phase_cursors.known;
+  last = rw same.last phase_cursors.last;
+  within = phase_cursors.within;
+  called_within = phase_cursors.called_within;
 }
 
 -- before any phase, and any component
-pub turns-none : {kept : Turns} → kept.last ≡ None → kept.late.items ≡ [] → AreTurns [] (top ∷ []) [] [] kept
-turns-none last late = record {
+pub phase_cursor-none : {kept : PhaseCursor} → kept.last ≡ None → kept.late.items ≡ [] → ArePhaseCursor [] (top ∷ []) [] [] kept
+phase_cursor-none last late = record {
   direction = All-nil _;
   waiting = All-nil _;
   behind = rw late (All-nil _);
@@ -52,58 +35,58 @@ turns-none last late = record {
 }
 
 -- a phase begins
-pub turns-begin :
-    {going next : List Phase} {nodes : List Node} {components called : List ℕ} {old new : Turns} → All (λ phase. order_of new.direction ≡ phase_order phase) next → new.last ≡ None → new.late.items ≡ []
-    → AreTurns going nodes components called old → AreTurns next nodes components [] new
-turns-begin direction last late turns = record {
+pub phase_cursor-begin :
+    {going next : List Phase} {nodes : List Node} {components called : List ℕ} {old new : PhaseCursor} → All (λ phase. order_of new.direction ≡ phase_order phase) next → new.last ≡ None → new.late.items ≡ []
+    → ArePhaseCursor going nodes components called old → ArePhaseCursor next nodes components [] new
+phase_cursor-begin direction last late phase_cursors = record {
   direction = direction;
   waiting = λ k d lt. rw last refl;
   behind = rw late (All-nil _);
   known = rw late (All-nil _);
   last = rw last tt;
-  within = turns.within;
+  within = phase_cursors.within;
   called_within = All-nil _;
 }
 
 -- fewer are in progress, or others that go in the same order
-pub turns-going : {going next : List Phase} {nodes : List Node} {components called : List ℕ} {kept : Turns} → All (λ phase. order_of kept.direction ≡ phase_order phase) next → AreTurns going nodes components called kept → AreTurns next nodes components called kept
-turns-going direction turns = record {
+pub phase_cursor-going : {going next : List Phase} {nodes : List Node} {components called : List ℕ} {kept : PhaseCursor} → All (λ phase. order_of kept.direction ≡ phase_order phase) next → ArePhaseCursor going nodes components called kept → ArePhaseCursor next nodes components called kept
+phase_cursor-going direction phase_cursors = record {
   direction = direction;
-  waiting = turns.waiting;
-  behind = turns.behind;
-  known = turns.known;
-  last = turns.last;
-  within = turns.within;
-  called_within = turns.called_within;
+  waiting = phase_cursors.waiting;
+  behind = phase_cursors.behind;
+  known = phase_cursors.known;
+  last = phase_cursors.last;
+  within = phase_cursors.within;
+  called_within = phase_cursors.called_within;
 }
 
-module _ {going : List Phase} {nodes : List Node} {components called : List ℕ} {kept : Turns} (x : Node) (turns : AreTurns going nodes components called kept) where
+module _ {going : List Phase} {nodes : List Node} {components called : List ℕ} {kept : PhaseCursor} (x : Node) (phase_cursors : ArePhaseCursor going nodes components called kept) where
   longer : length (nodes ++ x ∷ []) ≡ suc (length nodes)
   longer = omega (arith, length-append nodes (x ∷ []))
 
   waits-more : (n : ℕ) → n < length nodes → waits (nodes ++ x ∷ []) kept n ≡ waits nodes kept n
-  waits-more n lt = ap (λ b. b || list_any (λ late. late == n) kept.late.items) (after-more (order_of kept.direction) nodes x kept.last n turns.last lt)
+  waits-more n lt = ap (λ b. b || list_any (λ late. late == n) kept.late.items) (after-more (order_of kept.direction) nodes x kept.last n phase_cursors.last lt)
 
   late-within : All (λ node. node < length nodes) kept.late.items
-  late-within = All-weaker (Contains components) (λ node. node < length nodes) (λ node has. All-contains (λ n. n < length nodes) components node turns.within has) kept.late.items turns.known
+  late-within = All-weaker (Contains components) (λ node. node < length nodes) (λ node has. All-contains (λ n. n < length nodes) components node phase_cursors.within has) kept.late.items phase_cursors.known
 
   last-more : (last : Option ℕ) → IfSome last (λ node. node < length nodes) → IfSome last (λ node. node < length (nodes ++ x ∷ []))
   last-more None within = tt
   last-more (Some last) within = omega (arith, longer, within)
 
   behind-more : All (λ node. is_after (order_of kept.direction) (nodes ++ x ∷ []) kept.last node ≡ false) kept.late.items
-  behind-more = λ k d lt. after-more (order_of kept.direction) nodes x kept.last _ turns.last (late-within k d lt) ∙ turns.behind k d lt
+  behind-more = λ k d lt. after-more (order_of kept.direction) nodes x kept.last _ phase_cursors.last (late-within k d lt) ∙ phase_cursors.behind k d lt
 
   -- a node is added that is no component
-  pub turns-more : AreTurns going (nodes ++ x ∷ []) components called kept
-  turns-more = record {
-    direction = turns.direction;
-    waiting = λ k d lt. turns.waiting k d lt ∙ sym (waits-more _ (turns.within k d lt));
+  pub phase_cursor-more : ArePhaseCursor going (nodes ++ x ∷ []) components called kept
+  phase_cursor-more = record {
+    direction = phase_cursors.direction;
+    waiting = λ k d lt. phase_cursors.waiting k d lt ∙ sym (waits-more _ (phase_cursors.within k d lt));
     behind = behind-more;
-    known = turns.known;
-    last = last-more kept.last turns.last;
-    within = λ k d lt. omega (arith, longer, turns.within k d lt);
-    called_within = λ k d lt. omega (arith, longer, turns.called_within k d lt);
+    known = phase_cursors.known;
+    last = last-more kept.last phase_cursors.last;
+    within = λ k d lt. omega (arith, longer, phase_cursors.within k d lt);
+    called_within = λ k d lt. omega (arith, longer, phase_cursors.called_within k d lt);
   }
 
 -- who had no call yet
@@ -123,7 +106,7 @@ any-last (first ∷ late) node = or-true (first == node) _ (any-last late node)
     or-true false b is = is
 
 -- a component is made: it comes after the one that had its call last, or is late
-module _ {going : List Phase} {nodes : List Node} {components called : List ℕ} {kept new : Turns} (x : Node) (turns : AreTurns going nodes components called kept) (made : IsMadeIn (nodes ++ x ∷ []) (length nodes) kept new) where
+module _ {going : List Phase} {nodes : List Node} {components called : List ℕ} {kept new : PhaseCursor} (x : Node) (phase_cursors : ArePhaseCursor going nodes components called kept) (made : IsMadeIn (nodes ++ x ∷ []) (length nodes) kept new) where
   abbrev more : List Node
   more = nodes ++ x ∷ []
 
@@ -142,11 +125,11 @@ module _ {going : List Phase} {nodes : List Node} {components called : List ℕ}
   waits-new false is = rw (is, any-last kept.late.items (length nodes)) refl
 
   behind-new : (b : Bool) → after ≡ b → All (λ node. is_after (order_of kept.direction) more kept.last node ≡ false) (late_with b)
-  behind-new true is = behind-more x turns
-  behind-new false is = All-push (λ node. is_after (order_of kept.direction) more kept.last node ≡ false) kept.late.items (length nodes) (behind-more x turns) is
+  behind-new true is = behind-more x phase_cursors
+  behind-new false is = All-push (λ node. is_after (order_of kept.direction) more kept.last node ≡ false) kept.late.items (length nodes) (behind-more x phase_cursors) is
 
   known-old : All (Contains (components ++ length nodes ∷ [])) kept.late.items
-  known-old = All-weaker (Contains components) (Contains (components ++ length nodes ∷ [])) (λ node has. Contains-append_left components (length nodes ∷ []) node has) kept.late.items turns.known
+  known-old = All-weaker (Contains components) (Contains (components ++ length nodes ∷ [])) (λ node has. Contains-append_left components (length nodes ∷ []) node has) kept.late.items phase_cursors.known
 
   known-new : (b : Bool) → All (Contains (components ++ length nodes ∷ [])) (late_with b)
   known-new true = known-old
@@ -156,20 +139,20 @@ module _ {going : List Phase} {nodes : List Node} {components called : List ℕ}
   IsWaiting node = not (had_call called node) ≡ (is_after (order_of kept.direction) more kept.last node || list_any (λ late. late == node) (late_with after))
 
   waiting-old : (node : ℕ) → node < length nodes → not (had_call called node) ≡ waits nodes kept node → IsWaiting node
-  waiting-old node lt is = is ∙ sym (waits-more x turns node lt) ∙ ap (λ b. is_after (order_of kept.direction) more kept.last node || b) (sym (any-same after node lt))
+  waiting-old node lt is = is ∙ sym (waits-more x phase_cursors node lt) ∙ ap (λ b. is_after (order_of kept.direction) more kept.last node || b) (sym (any-same after node lt))
 
   waiting-new : All IsWaiting (components ++ length nodes ∷ [])
-  waiting-new = All-push IsWaiting components (length nodes) (λ k d lt. waiting-old _ (turns.within k d lt) (turns.waiting k d lt)) (ap not (fresh called (length nodes) turns.called_within) ∙ sym (waits-new after refl))
+  waiting-new = All-push IsWaiting components (length nodes) (λ k d lt. waiting-old _ (phase_cursors.within k d lt) (phase_cursors.waiting k d lt)) (ap not (fresh called (length nodes) phase_cursors.called_within) ∙ sym (waits-new after refl))
 
-  pub turns-made : AreTurns going more (components ++ length nodes ∷ []) called new
-  turns-made = record {
-    direction = rw made.direction turns.direction;
+  pub phase_cursor-made : ArePhaseCursor going more (components ++ length nodes ∷ []) called new
+  phase_cursor-made = record {
+    direction = rw made.direction phase_cursors.direction;
     waiting = rw (made.direction, made.last, made.late) waiting-new;
     behind = rw (made.direction, made.last, made.late) (behind-new after refl);
     known = rw made.late (known-new after);
-    last = rw made.last (last-more x turns kept.last turns.last);
-    within = All-push (λ n. n < length more) components (length nodes) (λ k d lt. omega (arith, longer x turns, turns.within k d lt)) (omega (arith, longer x turns));
-    called_within = λ k d lt. omega (arith, longer x turns, turns.called_within k d lt);
+    last = rw made.last (last-more x phase_cursors kept.last phase_cursors.last);
+    within = All-push (λ n. n < length more) components (length nodes) (λ k d lt. omega (arith, longer x phase_cursors, phase_cursors.within k d lt)) (omega (arith, longer x phase_cursors));
+    called_within = λ k d lt. omega (arith, longer x phase_cursors, phase_cursors.called_within k d lt);
   }
 
 -- a total order of the nodes
@@ -244,7 +227,7 @@ same-node : (m n : ℕ) → (m == n) ≡ true → m ≡ n
 same-node m n is = eqb-true m n is
 
 -- the component whose turn it was had its call
-module _ {going : List Phase} {nodes : List Node} {components called : List ℕ} {kept new : Turns} (node : ℕ) (turns : AreTurns going nodes components called kept) (heard : IsHeardIn node kept new)
+module _ {going : List Phase} {nodes : List Node} {components called : List ℕ} {kept new : PhaseCursor} (node : ℕ) (phase_cursors : ArePhaseCursor going nodes components called kept) (heard : IsHeardIn node kept new)
     (orders : OrdersNodes nodes (node_cmp (order_of kept.direction) nodes)) (turn : IsLeast (is_before (order_of kept.direction) nodes) (filter (λ n. not (had_call called n)) components) (Some node)) where
   abbrev order : PathOrder
   order = order_of kept.direction
@@ -259,7 +242,7 @@ module _ {going : List Phase} {nodes : List Node} {components called : List ℕ}
   held = All-contains (Contains components) (filter uncalled components) node (All-filter uncalled (Contains components) components (All-contains_itself components)) turn.member
 
   waited : (c : ℕ) → Contains components c → uncalled c ≡ waits nodes kept c
-  waited c has = All-contains (λ n. uncalled n ≡ waits nodes kept n) components c turns.waiting has
+  waited c has = All-contains (λ n. uncalled n ≡ waits nodes kept n) components c phase_cursors.waiting has
 
   waits-now : waits nodes kept node ≡ true
   waits-now = sym (waited node held) ∙ All-contains (λ n. uncalled n ≡ true) (filter uncalled components) node (filter_passes uncalled components) turn.member
@@ -268,7 +251,7 @@ module _ {going : List Phase} {nodes : List Node} {components called : List ℕ}
   lowest c has waits_too = All-contains (λ n. uncalled n ≡ true → comes n node ≡ false) components c (all-passing uncalled (λ n. comes n node ≡ false) components turn.first) has (waited c has ∙ waits_too)
 
   inside : (c : ℕ) → Contains components c → c < length nodes
-  inside c has = All-contains (λ n. n < length nodes) components c turns.within has
+  inside c has = All-contains (λ n. n < length nodes) components c phase_cursors.within has
 
   -- where none is late it is the last now
   module _ (none : kept.late.items ≡ []) where
@@ -283,7 +266,7 @@ module _ {going : List Phase} {nodes : List Node} {components called : List ℕ}
         by : (b : Bool) → comes node c ≡ b → comes node c ≡ false
         by false e = e
         by true e =
-            let known : last < length nodes = rw is at turns.last in
+            let known : last < length nodes = rw is at phase_cursors.last in
             let ordered = after-is order nodes orders last in
             let low : comes last node ≡ true = sym (ordered node known) ∙ ap (λ l. is_after order nodes l node) (sym is) ∙ sym (by-last node) ∙ waits-now in
             let high : waits nodes kept c ≡ true = by-last c ∙ ap (λ l. is_after order nodes l c) is ∙ ordered c known ∙ chain order nodes orders last node c low e in
@@ -308,10 +291,10 @@ module _ {going : List Phase} {nodes : List Node} {components called : List ℕ}
     late-first = rw some (Contains-append_left (first ∷ []) others first (Contains-push [] first))
 
     known-first : Contains components first
-    known-first = All-contains (Contains components) kept.late.items first turns.known late-first
+    known-first = All-contains (Contains components) kept.late.items first phase_cursors.known late-first
 
     behind-first : is_after order nodes kept.last first ≡ false
-    behind-first = All-contains (λ n. is_after order nodes kept.last n ≡ false) kept.late.items first turns.behind late-first
+    behind-first = All-contains (λ n. is_after order nodes kept.last n ≡ false) kept.late.items first phase_cursors.behind late-first
 
     waits-first : waits nodes kept first ≡ true
     waits-first = rw (behind-first, some) (let same : (first == first) ≡ true = grind (arith, nat_tests) in rw same refl)
@@ -323,7 +306,7 @@ module _ {going : List Phase} {nodes : List Node} {components called : List ℕ}
         by : (b : Bool) → is_after order nodes kept.last node ≡ b → is_after order nodes kept.last node ≡ false
         by false e = e
         by true e =
-            let known : last < length nodes = rw is at turns.last in
+            let known : last < length nodes = rw is at phase_cursors.last in
             let ordered = after-is order nodes orders last in
             let above : comes last node ≡ true = sym (ordered node known) ∙ ap (λ l. is_after order nodes l node) (sym is) ∙ e in
             let below : comes last first ≡ false = sym (ordered first known) ∙ ap (λ l. is_after order nodes l first) (sym is) ∙ behind-first in
@@ -342,30 +325,30 @@ module _ {going : List Phase} {nodes : List Node} {components called : List ℕ}
             let stays = any-filter_same (λ late. late == c) (λ late. not (late == node)) true (λ k e. let other : (k == node) ≡ false = grind (arith, nat_tests) in rw other refl) kept.late.items in
             rw (is, stays) (waited c has)
 
-  heard-by : (late : List ℕ) → kept.late.items ≡ late → AreTurns going nodes components (node ∷ called) new
+  heard-by : (late : List ℕ) → kept.late.items ≡ late → ArePhaseCursor going nodes components (node ∷ called) new
   heard-by [] none = record {
-    direction = rw heard.direction turns.direction;
+    direction = rw heard.direction phase_cursors.direction;
     waiting = rw (heard.direction, heard.last, heard.late, none) (λ k d lt. waiting-last none _ (Contains-get_or components k d lt));
     behind = rw (heard.late, none) (All-nil _);
     known = rw (heard.late, none) (All-nil _);
     last = rw (heard.last, none) (inside node held);
-    within = turns.within;
-    called_within = All-cons (λ n. n < length nodes) node called (inside node held) turns.called_within;
+    within = phase_cursors.within;
+    called_within = All-cons (λ n. n < length nodes) node called (inside node held) phase_cursors.called_within;
   }
   heard-by (first ∷ others) some =
       let last : new.last ≡ kept.last = heard.last ∙ ap (λ late. last_heard node late kept.last) some in
       record {
-        direction = rw heard.direction turns.direction;
+        direction = rw heard.direction phase_cursors.direction;
         waiting = rw (heard.direction, last, heard.late) (λ k d lt. waiting-late first others some _ (Contains-get_or components k d lt));
-        behind = rw (heard.direction, last, heard.late) (All-filter (λ late. not (late == node)) (λ n. is_after order nodes kept.last n ≡ false) kept.late.items turns.behind);
-        known = rw heard.late (All-filter (λ late. not (late == node)) (Contains components) kept.late.items turns.known);
-        last = rw last turns.last;
-        within = turns.within;
-        called_within = All-cons (λ n. n < length nodes) node called (inside node held) turns.called_within;
+        behind = rw (heard.direction, last, heard.late) (All-filter (λ late. not (late == node)) (λ n. is_after order nodes kept.last n ≡ false) kept.late.items phase_cursors.behind);
+        known = rw heard.late (All-filter (λ late. not (late == node)) (Contains components) kept.late.items phase_cursors.known);
+        last = rw last phase_cursors.last;
+        within = phase_cursors.within;
+        called_within = All-cons (λ n. n < length nodes) node called (inside node held) phase_cursors.called_within;
       }
 
-  pub turns-heard : AreTurns going nodes components (node ∷ called) new
-  turns-heard = heard-by kept.late.items refl
+  pub phase_cursor-heard : ArePhaseCursor going nodes components (node ∷ called) new
+  phase_cursor-heard = heard-by kept.late.items refl
 
 -- where some are late the last stays
 pub last-kept : (node : ℕ) (late : List ℕ) (last : Option ℕ) → false ≡ (length late == 0) → last ≡ last_heard node late last

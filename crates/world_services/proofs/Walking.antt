@@ -1,26 +1,12 @@
 -- A walk through a tree to the first component that waits.
-use Rattle.std.proofs.Common.{◌≡◌, ◌<◌, ◌≤◌, ◌+◌, ◌-◌, ℕ, zero, suc, Bool, true, false, not, List, [], ◌∷◌, length, filter, Contains, All, Option, Some, None, IfSome, IfNone, refl, ap, sym, ◌∙◌, subst, inl, inr, arith, rules, if◌then◌else◌}
-use Rattle.std.proofs.lemmas.Bool.{cases_lt}
-use Rattle.std.proofs.lemmas.List.Elements.{All-cons, All-contains, All-contains_itself, All-filter, All-head, All-nil, All-tail, Contains-append_cases, Contains-append_right, filter_passes}
-use Rattle.std.proofs.lemmas.List.FromFn.{length-range_with_len, get_or-range_with_len}
-use Rattle.std.specs.List.{range_with_len}
-use Rattle.std.specs.Option.{option_map_or}
-use Rattle.uvm_glob.specs.declared.orders.Direction.{Direction}
-use Rattle.uvm_glob.specs.Orders.{PathOrder, order_of}
-use Rattle.uvm_tree.specs.Cursors.{IsLeast, LeastIsLeast, OneIsLeast, OrdersNodes, is_after, is_before, least, node_cmp, nodes_after, numbers_of}
-use Rattle.uvm_tree.specs.Nodes.{Node}
-use Rattle.uvm_phase.specs.declared.phases.Phase.{Phase}
-use Rattle.bench_history.specs.History.{had_call}
-use Rattle.bench_history.specs.Laws.{AreComponentNodes, IsComponentNode}
-use Rattle.world_services.specs.declared.turns.Turns.{Turns}
-use Rattle.world_services.specs.Turns.{AreTurns, IsFirstWaiting, IsStart, waits}
+use Rattle.world_services.proofs.Common.{◌≡◌, ◌<◌, ◌≤◌, ◌+◌, ◌-◌, ℕ, zero, suc, Bool, true, false, not, List, [], ◌∷◌, length, filter, Contains, All, Option, Some, None, IfSome, IfNone, refl, ap, sym, ◌∙◌, subst, inl, inr, arith, rules, if◌then◌else◌, cases_lt, All-cons, All-contains, All-contains_itself, All-filter, All-head, All-nil, All-tail, Contains-append_cases, Contains-append_right, filter_passes, length-range_with_len, get_or-range_with_len, range_with_len, option_map_or, Direction, PathOrder, order_of, IsLeast, LeastIsLeast, OneIsLeast, OrdersNodes, is_after, is_before, least, node_cmp, nodes_after, numbers_of, Phase, had_call, AreComponentNodes, IsComponentNode, PhaseCursor, ArePhaseCursor, IsFirstWaiting, IsStart, waits, Node}
 use Rattle.world_services.proofs.Waiting.{after-is, chain, never-itself, or-false, other-way}
 
 -- the walk has come to a node: it stands in the tree, and no component that waits comes before it
-pub record IsNextOf (order : PathOrder) (nodes : List Node) (turns : Turns) (next : Option ℕ) : Type 0 where
-  pub none : IfNone next ((n : ℕ) → IsComponentNode nodes n → waits nodes turns n ≡ true → ⊥)
+pub record IsNextOf (order : PathOrder) (nodes : List Node) (phase_cursors : PhaseCursor) (next : Option ℕ) : Type 0 where
+  pub none : IfNone next ((n : ℕ) → IsComponentNode nodes n → waits nodes phase_cursors n ≡ true → ⊥)
   pub inside : IfSome next (λ c. (0 < c) × (c < length nodes))
-  pub first : IfSome next (λ c. (n : ℕ) → IsComponentNode nodes n → waits nodes turns n ≡ true → is_before order nodes n c ≡ false)
+  pub first : IfSome next (λ c. (n : ℕ) → IsComponentNode nodes n → waits nodes phase_cursors n ≡ true → is_before order nodes n c ≡ false)
 
 -- how many nodes it has before it
 abbrev pub left_from : PathOrder → List Node → Option ℕ → ℕ
@@ -88,12 +74,12 @@ module _ (p q : ℕ → Bool) (weaker : (n : ℕ) → p n ≡ true → q n ≡ t
       by false true is was less = rw (is, was) (omega (arith, less))
       by false false is was less = rw (is, was) less
 
-module _ (direction : Direction) (nodes : List Node) (turns : Turns) (orders : OrdersNodes nodes (node_cmp (order_of direction) nodes)) where
+module _ (direction : Direction) (nodes : List Node) (phase_cursors : PhaseCursor) (orders : OrdersNodes nodes (node_cmp (order_of direction) nodes)) where
   abbrev order : PathOrder
   order = order_of direction
 
   -- what comes next behind a node
-  pub next-from : (after next : Option ℕ) → IsLeast (is_before order nodes) (nodes_after order nodes after) next → ((n : ℕ) → IsComponentNode nodes n → waits nodes turns n ≡ true → is_after order nodes after n ≡ true) → IsNextOf order nodes turns next
+  pub next-from : (after next : Option ℕ) → IsLeast (is_before order nodes) (nodes_after order nodes after) next → ((n : ℕ) → IsComponentNode nodes n → waits nodes phase_cursors n ≡ true → is_after order nodes after n ≡ true) → IsNextOf order nodes phase_cursors next
   next-from after None least from = record {
     none = λ n is waits_. (let has = held (is_after order nodes after) nodes n is.0 is.1 (from n is waits_) in let empty = least.none.0 refl in let h = has.1 in omega (arith, ap length empty));
     inside = tt;
@@ -106,14 +92,14 @@ module _ (direction : Direction) (nodes : List Node) (turns : Turns) (orders : O
   }
 
   -- all that wait come behind where the walk begins
-  pub start-from : (start : Option ℕ) → IsStart direction turns start → (n : ℕ) → IsComponentNode nodes n → waits nodes turns n ≡ true → is_after order nodes start n ≡ true
+  pub start-from : (start : Option ℕ) → IsStart direction phase_cursors start → (n : ℕ) → IsComponentNode nodes n → waits nodes phase_cursors n ≡ true → is_after order nodes start n ≡ true
   start-from None starts n is waits_ = refl
-  start-from (Some last) starts n is waits_ = rw starts.0 (rw (starts.1, starts.2, or-false (is_after (order_of turns.direction) nodes (Some last) n)) at waits_)
+  start-from (Some last) starts n is waits_ = rw starts.0 (rw (starts.1, starts.2, or-false (is_after (order_of phase_cursors.direction) nodes (Some last) n)) at waits_)
 
   -- and behind a node that is none of them
-  pub step-from : (c : ℕ) → IsNextOf order nodes turns (Some c) → (IsComponentNode nodes c → waits nodes turns c ≡ true → ⊥) → (n : ℕ) → IsComponentNode nodes n → waits nodes turns n ≡ true → is_after order nodes (Some c) n ≡ true
+  pub step-from : (c : ℕ) → IsNextOf order nodes phase_cursors (Some c) → (IsComponentNode nodes c → waits nodes phase_cursors c ≡ true → ⊥) → (n : ℕ) → IsComponentNode nodes n → waits nodes phase_cursors n ≡ true → is_after order nodes (Some c) n ≡ true
   step-from c next other n is waits_ =
-      let apart : n ≡ c → ⊥ = λ e. other (subst (IsComponentNode nodes) e is) (subst (λ m. waits nodes turns m ≡ true) e waits_) in
+      let apart : n ≡ c → ⊥ = λ e. other (subst (IsComponentNode nodes) e is) (subst (λ m. waits nodes phase_cursors m ≡ true) e waits_) in
       after-is order nodes orders c n next.inside.1 ∙ other-way order nodes orders n c is.1 next.inside.1 apart (next.first n is waits_)
 
   -- fewer are left
@@ -131,13 +117,13 @@ module _ (direction : Direction) (nodes : List Node) (turns : Turns) (orders : O
       omega (arith, few)
 
   -- the walk has come to the first, or to the end
-  pub found-first : (c : ℕ) → IsNextOf order nodes turns (Some c) → IsComponentNode nodes c → waits nodes turns c ≡ true → IsFirstWaiting (is_before order nodes) nodes turns (Some c)
+  pub found-first : (c : ℕ) → IsNextOf order nodes phase_cursors (Some c) → IsComponentNode nodes c → waits nodes phase_cursors c ≡ true → IsFirstWaiting (is_before order nodes) nodes phase_cursors (Some c)
   found-first c next is waits_ = record { none = tt; is = (is, waits_); first = next.first }
 
-  pub found-none : IsNextOf order nodes turns None → IsFirstWaiting (is_before order nodes) nodes turns None
-  found-none next = record { none = λ n is. by n (waits nodes turns n) refl (next.none n is); is = tt; first = tt }
+  pub found-none : IsNextOf order nodes phase_cursors None → IsFirstWaiting (is_before order nodes) nodes phase_cursors None
+  found-none next = record { none = λ n is. by n (waits nodes phase_cursors n) refl (next.none n is); is = tt; first = tt }
     where
-      by : (n : ℕ) (b : Bool) → waits nodes turns n ≡ b → (waits nodes turns n ≡ true → ⊥) → waits nodes turns n ≡ false
+      by : (n : ℕ) (b : Bool) → waits nodes phase_cursors n ≡ b → (waits nodes phase_cursors n ≡ true → ⊥) → waits nodes phase_cursors n ≡ false
       by n true e never = absurd (never e)
       by n false e never = e
 
@@ -157,22 +143,22 @@ none-passes : (p : ℕ → Bool) (xs : List ℕ) → All (λ x. p x ≡ false) x
 none-passes p [] none = refl
 none-passes p (x ∷ xs) none = rw (All-head (λ x. p x ≡ false) x xs none) (none-passes p xs (All-tail (λ x. p x ≡ false) x xs none))
 
-module _ {going : List Phase} {nodes : List Node} {components called : List ℕ} {kept : Turns} (order : PathOrder) (turns : AreTurns going nodes components called kept) (kinds : AreComponentNodes nodes components) where
+module _ {going : List Phase} {nodes : List Node} {components called : List ℕ} {kept : PhaseCursor} (order : PathOrder) (phase_cursors : ArePhaseCursor going nodes components called kept) (kinds : AreComponentNodes nodes components) where
   abbrev uncalled : ℕ → Bool
   uncalled n = not (had_call called n)
 
   is-least : (found : Option ℕ) → IsFirstWaiting (is_before order nodes) nodes kept found → IsLeast (is_before order nodes) (filter uncalled components) found
   is-least None first = record {
-    none = (λ _. none-passes uncalled components (λ k d lt. turns.waiting k d lt ∙ first.none _ (kinds.each k d lt)), λ _. refl);
+    none = (λ _. none-passes uncalled components (λ k d lt. phase_cursors.waiting k d lt ∙ first.none _ (kinds.each k d lt)), λ _. refl);
     member = tt;
     first = tt;
   }
   is-least (Some c) first =
       let has = kinds.whole c first.is.0 in
-      let passes : uncalled c ≡ true = All-contains (λ n. uncalled n ≡ waits nodes kept n) components c turns.waiting has ∙ first.is.1 in
+      let passes : uncalled c ≡ true = All-contains (λ n. uncalled n ≡ waits nodes kept n) components c phase_cursors.waiting has ∙ first.is.1 in
       let held_ = passing-holds uncalled components c has passes in
       let each = All-filter uncalled (IsComponentNode nodes) components kinds.each in
-      let waiting = All-filter uncalled (λ n. uncalled n ≡ waits nodes kept n) components turns.waiting in
+      let waiting = All-filter uncalled (λ n. uncalled n ≡ waits nodes kept n) components phase_cursors.waiting in
       record {
         none = (λ e. absurd cc, λ e. absurd (let h = held_.1 in omega (arith, ap length e)));
         member = held_;
@@ -182,5 +168,5 @@ module _ {going : List Phase} {nodes : List Node} {components called : List ℕ}
   -- the first that waits is the least of those that had no call
   pub first-called : (found : Option ℕ) → OrdersNodes nodes (node_cmp order nodes) → LeastIsLeast → OneIsLeast → IsFirstWaiting (is_before order nodes) nodes kept found → found ≡ least (is_before order nodes) (filter uncalled components)
   first-called found orders leasts one first =
-      one nodes (node_cmp order nodes) orders (filter uncalled components) (All-filter uncalled (λ n. n < length nodes) components turns.within) found (least (is_before order nodes) (filter uncalled components))
+      one nodes (node_cmp order nodes) orders (filter uncalled components) (All-filter uncalled (λ n. n < length nodes) components phase_cursors.within) found (least (is_before order nodes) (filter uncalled components))
       (is-least found first) (leasts (node_cmp order nodes) orders.total (filter uncalled components))

@@ -1,4 +1,4 @@
--- What creations and starts come to, as the services know it.
+-- What creations of components and starts of sequences depend on, taken from the services.
 use Rattle.std.specs.Prelude.{◌≡◌, ℕ, List, Option, Some, None}
 use Rattle.uvm_factory.specs.declared.overrides.Override.{Override}
 use Rattle.uvm_factory.specs.Faults.{Types}
@@ -8,37 +8,37 @@ use Rattle.uvm_acts.specs.declared.acts.Act.{Act}
 use Rattle.uvm_object.specs.declared.fatals.Fatal.{Fatal}
 use Rattle.uvm_acts.specs.declared.acts.Act.TheVariants.{Start}
 use Rattle.uvm_object.specs.declared.fatals.Fatal.TheVariants.{OverrideLoop, TreeLimit}
-use Rattle.world_services.specs.declared.creations.Uncreated.{Uncreated}
-use Rattle.world_services.specs.declared.creations.Uncreated.TheVariants.{Refused, Memory}
+use Rattle.world_services.specs.declared.creations.CreationError.{CreationError}
+use Rattle.world_services.specs.declared.creations.CreationError.TheVariants.{Refused, Memory}
 use Rattle.world_services.specs.declared.services.Services.{Services}
 use Rattle.bench_history.specs.Sequences.{home_asked, sequence_path}
 use Rattle.bench_history.specs.Refusals.{Creation, Starting}
 
--- a creation by somebody, as the services know it
+-- what a creation by a performer depends on, taken from the services
 abbrev pub creation_in : Types → List Override → Services → Who → List ℕ → List ℕ → Creation
 creation_in types overrides services performer type_name name =
     record { built = services.built; types = types; overrides = overrides; nodes = services.tree.nodes; parent = node_of performer; type_name = type_name; name = name }
 
--- memory is wanted for a creation before the overrides are followed, and after all else: nothing but a loop of them is left to refuse it
+-- a creation may run out of memory instead of this refusal, or of none: of all refusals, only that of an override loop is checked after the
+-- allocations
 abbrev pub MayWantMemory : Option Fatal → Type 0
 MayWantMemory None = Unit {0}
 MayWantMemory (Some OverrideLoop) = Unit {0}
 MayWantMemory (Some fatal) = ⊥
 
--- for a start out of memory may come before its own path is judged, too, and after all else
+-- a start may run out of memory instead of this refusal, or of none: only those of its path and of an override loop are checked after an allocation
 abbrev pub MayWantMemoryEarly : Option Fatal → Type 0
 MayWantMemoryEarly None = Unit {0}
 MayWantMemoryEarly (Some TreeLimit) = Unit {0}
 MayWantMemoryEarly (Some OverrideLoop) = Unit {0}
 MayWantMemoryEarly (Some fatal) = ⊥
 
--- out of memory may be reported in place of this rejection or of none: `MayWantMemoryEarly` for a start, otherwise
--- `MayWantMemory`
+-- out of memory may be reported in place of this rejection or of none: `MayWantMemoryEarly` for a start, otherwise `MayWantMemory`
 abbrev pub MayWantMemoryFor : Act → Option Fatal → Type 0
 MayWantMemoryFor (Start type_name name on priority) refusal = MayWantMemoryEarly refusal
 MayWantMemoryFor act refusal = MayWantMemory refusal
 
--- a start by somebody, as the services know it
+-- what a start by a performer depends on, taken from the services
 abbrev pub starting_in : Types → List Override → Services → Who → List ℕ → List ℕ → List (List ℕ) → Option ℕ → Starting
 starting_in types overrides services performer type_name name on priority = record {
   phase = services.answer.phase;
@@ -50,18 +50,18 @@ starting_in types overrides services performer type_name name on priority = reco
   priority = priority;
 }
 
--- why nothing is created
-abbrev pub IsUncreated : Option Fatal → Uncreated → Type 0
-IsUncreated refusal (Refused fatal) = refusal ≡ Some fatal
-IsUncreated refusal Memory = MayWantMemory refusal
+-- why a component is not created: the refusal, or out of memory if `MayWantMemory` allows it
+abbrev pub IsCreationError : Option Fatal → CreationError → Type 0
+IsCreationError refusal (Refused fatal) = refusal ≡ Some fatal
+IsCreationError refusal Memory = MayWantMemory refusal
 
--- and why nothing is started
-abbrev pub IsUnstarted : Option Fatal → Uncreated → Type 0
+-- why a sequence is not started: the refusal, or out of memory if `MayWantMemoryEarly` allows it
+abbrev pub IsUnstarted : Option Fatal → CreationError → Type 0
 IsUnstarted refusal (Refused fatal) = refusal ≡ Some fatal
 IsUnstarted refusal Memory = MayWantMemoryEarly refusal
 
--- why an act makes nothing
-abbrev pub IsUnmade : Act → Option Fatal → Option Uncreated → Type 0
+-- why an action creates no object, if so: its refusal, or out of memory if `MayWantMemoryFor` allows it
+abbrev pub IsUnmade : Act → Option Fatal → Option CreationError → Type 0
 IsUnmade act refusal None = refusal ≡ None
 IsUnmade act refusal (Some (Refused fatal)) = refusal ≡ Some fatal
 IsUnmade act refusal (Some Memory) = MayWantMemoryFor act refusal

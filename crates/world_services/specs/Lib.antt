@@ -1,7 +1,7 @@
 pub mod OpenPorts
-pub mod Makings
+pub mod CreationsMatch
 pub mod Services
-pub mod Turns
-pub mod Rounds
+pub mod PhaseCursor
+pub mod PhaseCursors
 pub mod Creations
-pub mod Attempts
+pub mod ActResults

@@ -1,12 +1,12 @@
-//! The services of a run, each of which is what the log says, and what an act comes to. A room below `bench_world`.
+//! The services of a run, which match its log, and the results of actions on them. Part of bench_world.
 #![tactic(auto)]
 
-pub mod attempts;
+pub mod act_results;
 pub mod creations;
 pub mod nodes;
+pub mod phase_cursor;
+pub mod phase_cursors;
 pub mod rooms;
-pub mod rounds;
 pub mod services;
 pub mod settings;
 pub mod tells;
-pub mod turns;

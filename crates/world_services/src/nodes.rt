@@ -1,20 +1,20 @@
-//! What acts ask of the tree: the depth of a node, globs under its path, and a child of it.
+//! What actions use of the tree: the depth of a node, globs under its path, and new children.
 
 ghost use Rattle.std.specs.Prelude.{◌≡◌, ℕ, ◌∷◌, ◌++◌, ◌≤◌, ◌<◌, OnOk, IfOk, length, [], None, Some, IsOk};
 ghost use Rattle.uvm_glob.specs.Limits.{most_names};
 ghost use Rattle.uvm_tree.specs.Nodes.{path_at, child};
 ghost use Rattle.uvm_glob.specs.Paths.{path_text, dotted};
 ghost use Rattle.bench_history.specs.Refusals.{child_refusal};
-ghost use Rattle.world_agenda.specs.Objectings.{AreNumbered};
-ghost use Rattle.world_objections.specs.Phased.{HasNode, nodes_in, spare_in};
+ghost use Rattle.world_state.specs.ObjectionsMatch.{AreNumbered};
+ghost use Rattle.world_state.specs.Phased.{HasNode, nodes_in, spare_in};
 
 use std::alloc::{AllocError, Global};
 use uvm_glob::{Glob, Name, Path};
 use uvm_phase::Phase;
 use uvm_tree::{NodeId, NodeKind, Tree};
-use world_objections::objections::Objections;
+use world_state::objections::Objections;
 
-/// Answers how deep a node lies below the top.
+/// Returns the depth of a node below the root: how many names its path has.
 pub fn depth_of(tree: &Tree, node: NodeId) -> u8
     ensures depth { result ≡ length (path_at tree.now.nodes node) }
     ensures most { result ≤ most_names }
@@ -25,7 +25,7 @@ pub fn depth_of(tree: &Tree, node: NodeId) -> u8
     }
 }
 
-/// Answers the glob under the path of a node. Errors: out of memory.
+/// Returns the glob under the path of a node. Errors: out of memory.
 pub fn scope_under(
     alloc: Global,
     tree: &Tree,
@@ -40,8 +40,8 @@ pub fn scope_under(
     }
 }
 
-/// Adds a child whose name is free, and answers its node: nothing is raised at it, and its drain times are those that the script gives for
-/// its path (IEEE 1800.2-2020, 10.5). Errors: out of memory. It does not come where there is room for a child of that node.
+/// Adds a child with a free name and returns its node. No objection is raised at it, and its drain times are those that the script gives
+/// for its path (IEEE 1800.2-2020, 10.5). Errors: out of memory, only if no capacity was reserved for a child of `parent`.
 pub fn add_node(
     tree: &mut Tree,
     objections: &mut Objections,
@@ -64,7 +64,7 @@ pub fn add_node(
     Ok(node)
 }
 
-// The path of a node that is there.
+// Returns the path of an existing node.
 fn path_of(tree: &Tree, node: NodeId) -> &Path
     requires { node < length tree.now.nodes }
     ensures { result.now ≡ path_at tree.now.nodes node }
@@ -75,8 +75,7 @@ fn path_of(tree: &Tree, node: NodeId) -> &Path
     }
 }
 
-// Adds a child whose name is free, and answers its node. Errors: out of memory. It does not come where there is room for a child of
-// that node.
+// Adds a child with a free name and returns its node. Errors: out of memory, only if no capacity was reserved for a child of `parent`.
 #[tactic(auto, unfolding(uvm_tree::specs::Nodes::add_fault))]
 fn add_child(
     tree: &mut Tree,

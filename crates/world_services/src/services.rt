@@ -1,4 +1,4 @@
-//! What a world keeps beside its log.
+//! The services: the state of a run that follows from its log.
 
 ghost use Rattle.std.specs.Prelude.{◌≡◌, ◌∷◌, [], IfOk, None};
 ghost use Rattle.bench_script.specs.Factories.{IsFactoryOf};
@@ -7,81 +7,81 @@ ghost use Rattle.bench_history.specs.Configuration.{settings_of};
 ghost use Rattle.bench_history.specs.History.{overrides_of};
 ghost use Rattle.bench_history.specs.Reports.{script_commands};
 ghost use Rattle.uvm_objection.specs.Nodes.{top};
-ghost use Rattle.world_objections.specs.Phased.{nodes_in};
-ghost use Rattle.world_reports.specs.Reportings.{IsReporting};
-ghost use Rattle.world_sequencers.specs.Contests.{AreKnown};
+ghost use Rattle.world_state.specs.Phased.{nodes_in};
+ghost use Rattle.world_state.specs.ReportsMatch.{IsReportState};
+ghost use Rattle.world_sequencing.specs.GrantIndexes.{AreKnown};
 ghost use Rattle.world_services.specs.Services.{HasPassed, IsFactory, IsSettings, ServicesMatch};
 
-use crate::rounds::Rounds;
+use crate::phase_cursors::PhaseCursors;
 use crate::settings::given_settings;
-use bench_history::{Owner, Stage};
+use bench_history::{EventTarget, RunStage};
 use bench_script::Script;
 use std::alloc::{AllocError, Global};
 use uvm_config::Settings;
 use uvm_factory::Factory;
-use uvm_object::{Notice, Who};
+use uvm_object::{EventCall, Who};
 use uvm_objection::laws as objections;
 use uvm_phase::{Agenda, Phase};
 use uvm_sequences::Sequences;
 use uvm_tlm::Wiring;
 use uvm_tree::{NodeId, Tree};
-use world_fifos::stations::Stations;
-use world_objections::objections::Objections;
-use world_reports::reporting::{Reporting, given_reporting};
-use world_sequencers::arbiters::{Arbiters, passed_at};
-use world_sequencers::contests::Contest;
-use world_sequences::beginnings::Beginning;
+use world_sequencing::arbiters::{Arbiters, passed_at};
+use world_sequencing::grant_indexes::GrantIndex;
+use world_sequencing::start_records::StartRecord;
+use world_state::fifo_states::FifoStates;
+use world_state::objections::Objections;
+use world_state::report_state::{ReportState, given_report_state};
 
-/// How far the last answer is done.
+/// How far the last answer is performed.
 #[derive(Drop)]
-pub struct LastAnswer {
-    /// Who gave it.
-    pub speaker: Who,
-    /// The phase of the call that it answers, to which its acts belong; none for the script's.
+pub struct AnswerCursor {
+    /// The component or sequence that gave the answer.
+    pub performer: Who,
+    /// The phase of the call that was answered, to which the actions belong; none for the creation of the test.
     pub phase: Option<Phase>,
-    /// The place of its entry; none for the script's.
+    /// The place of the entry that records the answer; none for the creation of the test.
     pub place: Option<usize>,
-    /// How many acts it has.
+    /// How many actions the answer has.
     pub count: usize,
-    /// How many of them are done.
+    /// How many of its actions have been performed or refused.
     pub done: usize,
-    /// Whether none of the others are left: a note has ended it, or the speaker has finished.
+    /// Whether the actions that are left are skipped: the answer ended with a note, or the performer has finished.
     pub noted: bool,
 }
 
-/// All that is kept beside the log.
+/// The state of a run that follows from its log.
 pub struct Services {
-    pub stage: Stage,
-    /// The present time in ticks.
+    pub stage: RunStage,
+    /// The current time in ticks.
     pub time: u64,
     pub tree: Tree,
-    /// Of the phases that take time, one for each.
+    /// The objections of the phases that take time. The run-time phases share one until they differ.
     pub objections: Objections,
     pub wiring: Wiring,
-    pub stations: Stations,
-    /// Some nodes in path order, all FIFOs among them at which something may pass.
-    pub unsettled: Vec<NodeId>,
+    pub fifo_states: FifoStates,
+    /// Some nodes in path order, among them all FIFOs that have a transfer to complete.
+    pub fifos_to_settle: Vec<NodeId>,
     pub arbiters: Arbiters,
-    /// The sequencers at which something may be granted: at no other does a lock lead, or can a driver be served; and of which requests
-    /// it is known that they are blocked.
-    pub contest: Contest,
+    /// The sequencers at which a request may be granted, and how many requests are known to be blocked. At no other sequencer can a lock be
+    /// granted or a driver be served.
+    pub grant_index: GrantIndex,
     pub sequences: Sequences,
-    /// Of the sequences, by their numbers.
-    pub beginnings: Vec<Beginning>,
+    /// The start records of the sequences, by their numbers.
+    pub start_records: Vec<StartRecord>,
     pub factory: Factory,
     pub settings: Settings,
-    pub reporting: Reporting,
-    /// The events that are due.
-    pub agenda: Agenda<Owner, Notice>,
-    /// Which components wait for their call.
-    pub turns: Rounds,
-    pub answer: LastAnswer,
+    pub report_state: ReportState,
+    /// The scheduled events.
+    pub agenda: Agenda<EventTarget, EventCall>,
+    /// The components that wait for their callback in the active phases.
+    pub phase_cursors: PhaseCursors,
+    pub answer: AnswerCursor,
     pub built: bool,
     pub past_connect: bool,
     pub test_refused: bool,
 }
 
-// (By hand, so that crates above prove no drop of what it holds.)
+// (Written by hand, so that crates above need not prove the drop of each field.)
 impl Drop for Services {
     fn drop(self) {
         let Services {
@@ -90,17 +90,17 @@ impl Drop for Services {
             tree: _,
             objections: _,
             wiring: _,
-            stations: _,
-            unsettled: _,
+            fifo_states: _,
+            fifos_to_settle: _,
             arbiters: _,
-            contest: _,
+            grant_index: _,
             sequences: _,
-            beginnings: _,
+            start_records: _,
             factory: _,
             settings: _,
-            reporting: _,
+            report_state: _,
             agenda: _,
-            turns: _,
+            phase_cursors: _,
             answer: _,
             built: _,
             past_connect: _,
@@ -110,49 +110,49 @@ impl Drop for Services {
 }
 
 impl Services {
-    /// Makes what is kept of a script before the first entry, with its factory. Errors: out of memory.
+    /// Creates the services of a script before the first entry, with its factory. Errors: out of memory.
     pub fn given(alloc: Global, script: &Script, factory: Factory) -> Result<Services, AllocError>
         requires { IsFactoryOf script.now factory }
         ensures { IfOk result (ServicesMatch script.now []) }
     {
         let settings = given_settings(alloc, script.settings())?;
-        let reporting = given_reporting(alloc, script)?;
+        let report_state = given_report_state(alloc, script)?;
         let objections = Objections::new(alloc, script.drains())?;
-        Ok(Services::new(alloc, factory, settings, reporting, objections))
+        Ok(Services::new(alloc, factory, settings, report_state, objections))
     }
 
-    /// Makes what is kept before the first entry. Takes no memory.
+    /// Creates the services before the first entry. Allocates no memory.
     pub fn new(
         alloc: Global,
         factory: Factory,
         settings: Settings,
-        reporting: Reporting,
+        report_state: ReportState,
         objections: Objections,
     ) -> Services
         requires { (phase : Phase) → nodes_in objections phase ≡ top ∷ [] }
         ensures { (script : ScriptValue) → objections.given ≡ script.drains → IsFactory script.types (overrides_of script []) factory → IsSettings (settings_of script []) settings
-            → IsReporting (script_commands script) None reporting → ServicesMatch script [] result }
+            → IsReportState (script_commands script) None report_state → ServicesMatch script [] result }
     {
         objections::nodes_grow();
         Services {
-            stage: Stage::Before,
+            stage: RunStage::Before,
             time: 0,
             tree: Tree::new(alloc),
             objections,
             wiring: Wiring::new(alloc),
-            stations: Stations::new(alloc),
-            unsettled: Vec::new(alloc),
+            fifo_states: FifoStates::new(alloc),
+            fifos_to_settle: Vec::new(alloc),
             arbiters: Arbiters::new(alloc),
-            contest: Contest::new(alloc),
+            grant_index: GrantIndex::new(alloc),
             sequences: Sequences::new(alloc),
-            beginnings: Vec::new(alloc),
+            start_records: Vec::new(alloc),
             factory,
             settings,
-            reporting,
+            report_state,
             agenda: Agenda::new(alloc),
-            turns: Rounds::new(alloc),
-            answer: LastAnswer {
-                speaker: Who::Node(NodeId::TOP),
+            phase_cursors: PhaseCursors::new(alloc),
+            answer: AnswerCursor {
+                performer: Who::Node(NodeId::TOP),
                 phase: None,
                 place: None,
                 count: 1,
@@ -165,27 +165,27 @@ impl Services {
         }
     }
 
-    /// Passes over the blocked requests at the sequencers at which something may be granted, so that nobody looks at them again while they
-    /// are blocked (IEEE 1800.2-2020, Clause 15). Takes no memory; the time is that of a look at those that were not passed over before.
+    /// Counts the blocked requests at the sequencers of the grant index, so that they are not examined again while they are blocked (IEEE
+    /// 1800.2-2020, Clause 15). Allocates no memory. Cost: O(n) in the requests that were not yet counted.
     pub fn pass_blocked(&mut self)
-        requires { AreKnown self.old.sequences.started self.old.arbiters self.old.contest }
+        requires { AreKnown self.old.sequences.started self.old.arbiters self.old.grant_index }
         ensures { HasPassed self.old self.new }
     {
-        for place in 0..self.contest.nodes.len() {
+        for place in 0..self.grant_index.nodes.len() {
             self.pass_at(place);
         }
     }
 
-    // Passes over those at the sequencer that stands at a place of these.
+    // Counts the blocked requests at one of these sequencers.
     fn pass_at(&mut self, place: usize)
-        requires { AreKnown self.old.sequences.started self.old.arbiters self.old.contest }
+        requires { AreKnown self.old.sequences.started self.old.arbiters self.old.grant_index }
         ensures { HasPassed self.old self.new }
     {
-        if let Some(node) = self.contest.nodes.get(place) {
+        if let Some(node) = self.grant_index.nodes.get(place) {
             let node = *node;
-            let known = self.contest.known(node);
+            let known = self.grant_index.known(node);
             let passed = passed_at(&self.arbiters, &self.sequences, known, node);
-            self.contest.learn(node, passed);
+            self.grant_index.learn(node, passed);
         }
     }
 }

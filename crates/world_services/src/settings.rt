@@ -2,7 +2,7 @@
 
 ghost use Rattle.std.specs.Prelude.{◌≡◌, ℕ, ◌∷◌, ◌++◌, ◌≤◌, ◌<◌, List, OnOk, IfOk, length, map, reverse};
 ghost use Rattle.uvm_glob.specs.Limits.{most_names};
-ghost use Rattle.uvm_config.specs.Choice.{precedence_of};
+ghost use Rattle.uvm_config.specs.ChosenValue.{precedence_of};
 ghost use Rattle.uvm_config.specs.Observed.{accepted};
 ghost use Rattle.bench_history.specs.Configuration.{given_setting};
 ghost use Rattle.world_services.specs.Services.{IsSettings};
@@ -13,7 +13,7 @@ use std::alloc::{AllocError, Global};
 use uvm_config::{Settings, laws};
 use uvm_glob::{Glob, Name};
 
-/// Makes the settings of a script, in their order. Errors: out of memory.
+/// Creates the settings of a script, in their order. Errors: out of memory.
 pub fn given_settings(alloc: Global, given: &[Setting]) -> Result<Settings, AllocError>
     requires { length given.now ≤ config.most_settings }
     ensures { IfOk result (IsSettings (reverse (map given_setting given.now))) }
@@ -26,7 +26,7 @@ pub fn given_settings(alloc: Global, given: &[Setting]) -> Result<Settings, Allo
     Ok(settings)
 }
 
-// Sets a field as a script says.
+// Sets a field to the value that the script gives. Errors: out of memory.
 fn set_given(settings: &mut Settings, setting: &Setting) -> Result<(), AllocError>
     requires { accepted settings.old < config.most_settings }
     ensures { OnOk result ((given : List config.Setting) → IsSettings given settings.old → IsSettings (given_setting setting.now ∷ given) settings.new) }
@@ -36,7 +36,7 @@ fn set_given(settings: &mut Settings, setting: &Setting) -> Result<(), AllocErro
     set(settings, 0, false, scope, setting.field, value)
 }
 
-/// Sets a field in settings that are not full. Errors: out of memory.
+/// Sets a field; the settings are not full. Errors: out of memory.
 pub fn set(
     settings: &mut Settings,
     depth: u8,

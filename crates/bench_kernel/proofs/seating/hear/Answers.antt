@@ -1,4 +1,4 @@
-use Rattle.object_seats.specs.Seats.{held_in}
+use Rattle.bench_kernel.proofs.Common.{held_in}
 use Rattle.bench_kernel.proofs.Sitting.{asked-before, asked-behind, component-sits, sequence-sits}
 use Rattle.bench_kernel.proofs.seating.hear.Goals as goal
 

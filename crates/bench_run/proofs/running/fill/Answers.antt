@@ -1,8 +1,5 @@
-use Rattle.std.proofs.Common.{◌≡◌, ◌∙◌, [], None, Some, Ok, ap}
-use Rattle.std.proofs.lemmas.Result.{on_ok_weaker}
-use Rattle.std.specs.Option.{option_map_or}
+use Rattle.bench_run.proofs.Common.{◌≡◌, ◌∙◌, [], None, Some, Ok, ap, on_ok_weaker, option_map_or, wanted_in}
 use Rattle.bench_history.specs.declared.needs.Need.{Need}
-use Rattle.bench_kernel.specs.Kernels.{wanted_in}
 use Rattle.bench_run.proofs.Lives.{kept-declined, kept-filled, may-give}
 use Rattle.bench_run.proofs.running.fill.Goals as goal
 

@@ -1,4 +1,4 @@
-use Rattle.std.proofs.Common.{◌≡◌, ◌∙◌}
+use Rattle.bench_run.proofs.Common.{◌≡◌, ◌∙◌}
 use Rattle.bench_run.proofs.Goings.{told-more}
 use Rattle.bench_run.proofs.Lives.{kept-back, kept-moved}
 use Rattle.bench_run.proofs.running.make_entry.Goals as goal

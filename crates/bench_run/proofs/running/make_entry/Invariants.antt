@@ -1,6 +1,4 @@
-use Rattle.std.proofs.Common.{◌≡◌, length}
-use Rattle.bench_run.specs.Lives.{AreKept, MayGive}
-use Rattle.bench_run.specs.Running.{HasTold}
+use Rattle.bench_run.proofs.Common.{◌≡◌, length, AreKept, MayGive, HasTold}
 use Rattle.bench_run.proofs.running.make_entry.Given as goal
 
 -- those who have ended were told, and nothing else changed

@@ -1,11 +1,6 @@
-use Rattle.std.proofs.Common.{◌≡◌, ◌∙◌, [], ap, arith, lit≤, refl, subst}
-use Rattle.bench_script.specs.Scripts.{ScriptValue}
-use Rattle.bench_history.specs.Next.{IsLegal}
-use Rattle.bench_kernel.specs.Kernels.{KernelValue}
-use Rattle.bench_run.specs.Lives.{HaveLived, MayGive}
+use Rattle.bench_run.proofs.Common.{◌≡◌, ◌∙◌, [], ap, arith, lit≤, refl, subst, ScriptValue, IsLegal, KernelValue, HaveLived, MayGive, took-nothing}
 use Rattle.bench_run.proofs.Goings.{never-ran}
 use Rattle.bench_run.proofs.Lives.{none-lived}
-use Rattle.bench_run.specs.Texts.{took-nothing}
 use Rattle.bench_run.proofs.running.run_script.Goals as goal
 
 -- the log is that of the kernel, which is of the script

@@ -1,7 +1,4 @@
-use Rattle.std.proofs.Common.{◌≡◌, Err, ap, refl, rules, subst, true, false}
-use Rattle.bench_run.specs.Words.{AreDrawn}
-use Rattle.bench_run.specs.Running.{Grows, IsHalted}
-use Rattle.bench_run.specs.declared.faults.RunFault.TheVariants.{Output}
+use Rattle.bench_run.proofs.Common.{◌≡◌, Err, ap, refl, rules, subst, true, false, AreDrawn, Grows, IsHalted, Output}
 use Rattle.bench_run.proofs.Goings.{breaks-off, err-told, goes-on, grown-health, grown-script, halts, told-health, told-log, unsummed}
 use Rattle.bench_run.proofs.Lives.{begins, lived-same}
 use Rattle.bench_run.proofs.Words.{drawn-grown, drawn-none, drawn-told, given-all, given-broken, given-lost, words-same}

@@ -1,12 +1,4 @@
-use Rattle.std.specs.Io.KnownBytes.{Appends}
-use Rattle.std.proofs.Common.{◌≡◌, ◌<◌, ◌-◌, true, length}
-use Rattle.bench_history.specs.Limits.{log_limit}
-use Rattle.bench_history.specs.Next.{IsLegal}
-use Rattle.bench_kernel.specs.Health.TheVariants.{Good}
-use Rattle.bench_run.specs.Lives.{AreKept, MayGive}
-use Rattle.bench_run.specs.Words.{AreDrawn}
-use Rattle.bench_run.specs.Running.{transcript}
-use Rattle.bench_run.specs.Sinks.{TookMore}
+use Rattle.bench_run.proofs.Common.{Appends, ◌≡◌, ◌<◌, ◌-◌, true, length, log_limit, IsLegal, Good, AreKept, MayGive, AreDrawn, transcript, TookMore}
 use Rattle.bench_run.proofs.running.run_to_end.Given as goal
 
 -- the text of the log so far was written, one for each entry, which has room where the kernel has failed; its words were drawn, and its objects have

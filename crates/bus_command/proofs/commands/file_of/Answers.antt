@@ -1,4 +1,4 @@
-use Rattle.clap.specs.Words.{found_of}
+use Rattle.bus_command.proofs.Common.{found_of}
 use Rattle.bus_command.proofs.CommandLemmas.{file_read, no_file}
 use Rattle.bus_command.proofs.commands.file_of.Goals as goal
 

@@ -1,7 +1,4 @@
-use Rattle.std.proofs.Common.{◌∙◌, codes}
-use Rattle.clap.specs.Takes.{is_given}
-use Rattle.clap.specs.Words.{found_of, one_of, rows_of}
-use Rattle.clap.proofs.WalkLemmas.{one_text-rows}
+use Rattle.bus_command.proofs.Common.{◌∙◌, codes, is_given, found_of, one_text-rows, one_of, rows_of}
 use Rattle.bus_command.proofs.CommandLemmas.{flag_read}
 use Rattle.bus_command.proofs.commands.is_traced.Goals as goal
 

@@ -1,7 +1,4 @@
-use Rattle.std.proofs.Common.{◌∙◌, Err, ap, inr, map, refl}
-use Rattle.clap.specs.Words.{App, fault_of, takes}
-use Rattle.clap.specs.declared.error.kind.ErrorKind.TheVariants.{DisplayHelp, DisplayVersion}
-use Rattle.bus_command.specs.Commands.{bus_bench_app, job_named}
+use Rattle.bus_command.proofs.Common.{◌∙◌, Err, ap, inr, map, refl, takes, DisplayHelp, DisplayVersion, bus_bench_app, job_named, App, fault_of}
 use Rattle.bus_command.proofs.CommandLemmas.{bad_name_alone, faultless_job, found_rows, no_fault, on_ok, only_memory}
 use Rattle.bus_command.proofs.HelpLemmas.{asks_help, asks_version, has_kind, helped, none_asked, versioned}
 use Rattle.bus_command.proofs.PlainLemmas.{asks_debug, asks_run, gives_job}

@@ -1,7 +1,4 @@
-use Rattle.std.proofs.Common.{◌∙◌, Option, Some, ap, codes, sym, rules}
-use Rattle.std.specs.Option.{option_map}
-use Rattle.clap.specs.Words.{Text, found_of, rows_of}
-use Rattle.bus_command.specs.Commands.{has_bad_name, is_bad_test, run, run_in}
+use Rattle.bus_command.proofs.Common.{◌∙◌, Option, Some, ap, codes, sym, rules, option_map, found_of, has_bad_name, is_bad_test, run, run_in, Text, rows_of}
 use Rattle.bus_command.proofs.CommandLemmas.{first_read}
 use Rattle.bus_command.proofs.commands.run_job.Goals as goal
 

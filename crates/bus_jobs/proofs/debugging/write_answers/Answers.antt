@@ -1,6 +1,4 @@
-use Rattle.std.proofs.Common.{◌≡◌, ◌∙◌, ◌<◌, ◌≤◌, length, get_or}
-use Rattle.std.proofs.KnownBytes.{Appends-trans}
-use Rattle.bus_jobs.specs.Debugging.{probe_line}
+use Rattle.bus_jobs.proofs.Common.{◌≡◌, ◌∙◌, ◌<◌, ◌≤◌, length, get_or, Appends-trans, probe_line}
 use Rattle.bus_jobs.proofs.Answering.{lines-more, lines-all, lines-some, line-factory}
 use Rattle.bus_jobs.proofs.debugging.write_answers.Goals as goal
 

@@ -1,7 +1,4 @@
-use Rattle.std.proofs.Common.{take}
-use Rattle.std.specs.List.{concat}
-use Rattle.std.specs.Io.KnownBytes.{Appends}
-use Rattle.bus_jobs.specs.Debugging.{debug_lines}
+use Rattle.bus_jobs.proofs.Common.{take, concat, Appends, debug_lines}
 use Rattle.bus_jobs.proofs.debugging.write_answers.Given as goal
 
 -- the lines of the probes so far were written

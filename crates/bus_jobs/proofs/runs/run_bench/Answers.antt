@@ -1,6 +1,4 @@
-use Rattle.std.proofs.Common.{option_copied}
-use Rattle.bench_run.specs.Texts.{took-nothing-of}
-use Rattle.bus_jobs.specs.Runs.{script_to_run}
+use Rattle.bus_jobs.proofs.Common.{option_copied, took-nothing-of, script_to_run}
 use Rattle.bus_jobs.proofs.runs.run_bench.Goals as goal
 
 pub returns-in-Err-Memory-clause-room : goal.returns-in-Err-Memory-clause-room

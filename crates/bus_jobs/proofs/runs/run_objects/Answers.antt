@@ -1,7 +1,4 @@
-use Rattle.std.proofs.Common.{◌≡◌, subst}
-use Rattle.bus_objects.specs.Objects.{name_of, object_named, says_of, view_of}
-use Rattle.bus_jobs.specs.Runs.{GivesNamed}
-use Rattle.bench_run.specs.Given.{run-as}
+use Rattle.bus_jobs.proofs.Common.{◌≡◌, subst, name_of, object_named, says_of, view_of, GivesNamed, run-as}
 use Rattle.bus_jobs.proofs.runs.run_objects.Goals as goal
 
 -- the closure gives what the bench has

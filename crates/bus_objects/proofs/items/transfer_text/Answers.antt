@@ -1,10 +1,5 @@
 -- The bytes are the item's text, at the words as they are and not cast.
-use Rattle.std.proofs.Common.{◌≡◌, List, ℕ, ◌++◌, ◌∷◌, w64, FitsSigned, to_z, of_z, rules, ◌∙◌}
-use Rattle.std.specs.Prelude.{ℤ}
-use Rattle.std.specs.Fmt.{signed_decimal}
-use Rattle.std.proofs.lemmas.Int.{to_z-of_z}
-use Rattle.uvm_tlm.specs.declared.items.Item.{Item}
-use Rattle.bus_objects.specs.Items.{address_of, data_of, operation_text, transfer_text}
+use Rattle.bus_objects.proofs.Common.{◌≡◌, List, ℕ, ◌++◌, ◌∷◌, w64, FitsSigned, to_z, of_z, rules, ◌∙◌, ℤ, signed_decimal, to_z-of_z, Item, address_of, data_of, operation_text, transfer_text}
 use Rattle.bus_objects.proofs.Printed.{transfer_text-fits}
 use Rattle.bus_objects.proofs.items.transfer_text.Goals as goal
 

@@ -1,6 +1,4 @@
-use Rattle.std.proofs.Common.{rules, ◌≡◌, Some}
-use Rattle.toml.specs.Data.{as_table}
-use Rattle.toml.specs.View.{table_view, view}
+use Rattle.script_jobs.proofs.Common.{rules, ◌≡◌, Some, as_table, table_view, view}
 use Rattle.script_jobs.proofs.answers.answers_at.Goals as goal
 
 -- they are at fault in their table

@@ -1,5 +1,4 @@
-use Rattle.std.proofs.Common.{◌≡◌, drop}
-use Rattle.script_jobs.specs.Runs.{bare_types}
+use Rattle.script_jobs.proofs.Common.{◌≡◌, drop, bare_types}
 use Rattle.script_jobs.proofs.answers.bare_type.Given as goal
 
 -- each type before the place has an object

@@ -1,5 +1,4 @@
-use Rattle.std.proofs.Common.{◌∙◌, sym}
-use Rattle.script_jobs.specs.Runs.{unknown_types}
+use Rattle.script_jobs.proofs.Common.{◌∙◌, sym, unknown_types}
 use Rattle.script_jobs.proofs.Firsts.{none_first}
 use Rattle.script_jobs.proofs.answers.declared.Goals as goal
 

@@ -1,5 +1,4 @@
-use Rattle.std.specs.Prelude.{codes}
-use Rattle.toml.proofs.Views.{table_get}
+use Rattle.script_jobs.proofs.Common.{table_get, codes}
 use Rattle.script_jobs.proofs.answers.member.Goals as goal
 
 -- what the map of the table finds

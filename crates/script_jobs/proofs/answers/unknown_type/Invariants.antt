@@ -1,5 +1,4 @@
-use Rattle.std.proofs.Common.{◌≡◌, drop}
-use Rattle.script_jobs.specs.Runs.{unknown_types}
+use Rattle.script_jobs.proofs.Common.{◌≡◌, drop, unknown_types}
 use Rattle.script_jobs.proofs.answers.unknown_type.Given as goal
 
 -- the script has each type before the place

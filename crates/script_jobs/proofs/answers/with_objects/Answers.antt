@@ -1,5 +1,4 @@
-use Rattle.std.proofs.Common.{◌∙◌, sym}
-use Rattle.script_jobs.specs.Runs.{bare_types}
+use Rattle.script_jobs.proofs.Common.{◌∙◌, sym, bare_types}
 use Rattle.script_jobs.proofs.Firsts.{none_first}
 use Rattle.script_jobs.proofs.answers.with_objects.Goals as goal
 

@@ -1,9 +1,4 @@
-use Rattle.std.proofs.Common.{ℕ, List, Option, Result, Ok, Err, IfOk, option_copied}
-use Rattle.toml.specs.Data.{Members}
-use Rattle.script_values.specs.declared.faults.ScriptFault.{ScriptFault}
-use Rattle.bench_script.specs.Documents.{tree_of_bytes}
-use Rattle.bench_run.specs.Texts.{TookSome, took-nothing-of}
-use Rattle.script_jobs.specs.Runs.{script_to_run}
+use Rattle.script_jobs.proofs.Common.{ℕ, List, Result, Ok, Err, IfOk, Members, ScriptFault, tree_of_bytes, TookSome, took-nothing-of, script_to_run, Option, option_copied}
 use Rattle.script_jobs.proofs.runs.run_bench.Goals as goal
 
 -- of whatever tree there is

@@ -1,7 +1,4 @@
-use Rattle.std.proofs.Common.{subst}
-use Rattle.bench_run.specs.Given.{run-as}
-use Rattle.script_jobs.specs.Objects.{name_of, says_of, view_of}
-use Rattle.script_jobs.specs.Runs.{GivesNamed}
+use Rattle.script_jobs.proofs.Common.{subst, run-as, name_of, says_of, view_of, GivesNamed}
 use Rattle.script_jobs.proofs.runs.run_objects.Goals as goal
 
 -- the closure gives what the document says

@@ -1,9 +1,4 @@
-use Rattle.std.proofs.Common.{rules, Ok}
-use Rattle.std.specs.Prelude.{option_copied}
-use Rattle.toml.specs.View.{table_view}
-use Rattle.bus_jobs.specs.Runs.{words_of_seed}
-use Rattle.bench_run.specs.Texts.{took-nothing-of}
-use Rattle.script_jobs.specs.Runs.{IsScriptRun, RanTo, script_to_run}
+use Rattle.script_jobs.proofs.Common.{rules, Ok, table_view, words_of_seed, took-nothing-of, IsScriptRun, RanTo, script_to_run, option_copied}
 use Rattle.script_jobs.proofs.Ran.{fault-run, ran-to}
 use Rattle.script_jobs.proofs.runs.run_tree.Goals as goal
 
@@ -11,15 +6,15 @@ use Rattle.script_jobs.proofs.runs.run_tree.Goals as goal
 pub returns-in-Ok-run_objects-clause-run : goal.returns-in-Ok-run_objects-clause-run
 returns-in-Ok-run_objects-clause-run g c =
     let contents = g.S.Sink.contents in
-    let run : IsScriptRun c.in-Ok-answers_in.answers (words_of_seed c.args.seed) c.in-Ok.script c.args.trace (contents c.args.out.now) (contents c.run_objects.new.out) (Ok c.in-Ok-run_objects.ending) =
+    let run : IsScriptRun c.in-Ok-answers_in.answers (words_of_seed c.args.seed) c.in-Ok.script c.args.trace (contents c.args.out.now) (contents c.run_objects.new.out) (Ok c.in-Ok-run_objects.run_result) =
     search (rules, c.in-Ok-run_objects.ensures.run, c.seed_from_u64-words.ensures) in
-    let ran : RanTo (table_view c.args.root.now) (option_copied c.args.test) (words_of_seed c.args.seed) c.args.trace (contents c.args.out.now) (contents c.run_objects.new.out) (Ok c.in-Ok-run_objects.ending) = record {
+    let ran : RanTo (table_view c.args.root.now) (option_copied c.args.test) (words_of_seed c.args.seed) c.args.trace (contents c.args.out.now) (contents c.run_objects.new.out) (Ok c.in-Ok-run_objects.run_result) = record {
       script = c.in-Ok.script;
       types = c.in-Ok-answers_in.answers;
       bench = record { asked = c.in-Ok.ensures.ok; answers = c.in-Ok-answers_in.ensures.ok; known = c.in-Ok-answers_in.ensures.known; objects = c.in-Ok-answers_in.ensures.objects };
       run = run;
     } in
-    ran-to (table_view c.args.root.now) (option_copied c.args.test) (words_of_seed c.args.seed) c.args.trace (contents c.args.out.now) (contents c.run_objects.new.out) c.in-Ok-run_objects.ending c.verdict_on.result ran c.verdict_on.ensures
+    ran-to (table_view c.args.root.now) (option_copied c.args.test) (words_of_seed c.args.seed) c.args.trace (contents c.args.out.now) (contents c.run_objects.new.out) c.in-Ok-run_objects.run_result c.verdict_on.result ran c.verdict_on.ensures
 
 -- a fault of the script, by its report
 pub returns-in-Err-clause-run : goal.returns-in-Err-clause-run

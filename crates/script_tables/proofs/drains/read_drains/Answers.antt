@@ -1,5 +1,4 @@
-use Rattle.std.proofs.lemmas.List.Elements.{All-push}
-use Rattle.script_tables.specs.Drains.{CanDrain, drain_row}
+use Rattle.script_tables.proofs.Common.{All-push, CanDrain, drain_row}
 use Rattle.script_tables.proofs.RowsRead.{row-read}
 use Rattle.script_tables.proofs.drains.read_drains.Goals as goal
 

@@ -1,7 +1,4 @@
-use Rattle.std.proofs.Common.{◌≡◌, drop, All}
-use Rattle.toml.specs.View.{table_view, items_view}
-use Rattle.script_values.specs.Elements.{rows_from}
-use Rattle.script_tables.specs.Drains.{CanDrain, drain_row, drains_in}
+use Rattle.script_tables.proofs.Common.{◌≡◌, drop, All, table_view, items_view, rows_from, CanDrain, drain_row, drains_in}
 use Rattle.script_tables.proofs.drains.read_drains.Given as goal
 
 -- the rows so far, and those of the elements that are left

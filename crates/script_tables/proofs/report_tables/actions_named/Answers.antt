@@ -1,6 +1,4 @@
-use Rattle.std.proofs.Common.{ℕ, List, Bor, ◌∙◌, sym, refl}
-use Rattle.std.proofs.lemmas.List.Folds.{list_all-map}
-use Rattle.script_tables.specs.ReportTables.{is_one_of, action_words}
+use Rattle.script_tables.proofs.Common.{ℕ, List, Bor, ◌∙◌, sym, refl, list_all-map, is_one_of, action_words}
 use Rattle.script_tables.proofs.report_tables.actions_named.Goals as goal
 
 -- each word is an action

@@ -1,4 +1,4 @@
-use Rattle.script_tables.specs.ReportTables.{action_row}
+use Rattle.script_tables.proofs.Common.{action_row}
 use Rattle.script_tables.proofs.RowsRead.{row-read}
 use Rattle.script_tables.proofs.report_tables.read_actions.Goals as goal
 

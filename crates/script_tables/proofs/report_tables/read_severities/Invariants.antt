@@ -1,7 +1,4 @@
-use Rattle.std.proofs.Common.{◌≡◌, drop}
-use Rattle.toml.specs.View.{table_view, items_view}
-use Rattle.script_values.specs.Elements.{rows_from}
-use Rattle.script_tables.specs.ReportTables.{severity_row, severities_in}
+use Rattle.script_tables.proofs.Common.{◌≡◌, drop, table_view, items_view, rows_from, severity_row, severities_in}
 use Rattle.script_tables.proofs.report_tables.read_severities.Given as goal
 
 -- the rows so far, and those of the elements that are left

@@ -1,6 +1,4 @@
-use Rattle.std.proofs.lemmas.List.Elements.{All-push}
-use Rattle.script_tables.specs.Rows.{HasLevelInRange}
-use Rattle.script_tables.specs.ReportTables.{verbosity_row}
+use Rattle.script_tables.proofs.Common.{All-push, HasLevelInRange, verbosity_row}
 use Rattle.script_tables.proofs.RowsRead.{row-read}
 use Rattle.script_tables.proofs.report_tables.read_verbosities.Goals as goal
 

@@ -1,8 +1,4 @@
-use Rattle.std.proofs.Common.{◌≡◌, drop, All}
-use Rattle.toml.specs.View.{table_view, items_view}
-use Rattle.script_tables.specs.Rows.{HasLevelInRange}
-use Rattle.script_values.specs.Elements.{rows_from}
-use Rattle.script_tables.specs.ReportTables.{verbosity_row, verbosities_in}
+use Rattle.script_tables.proofs.Common.{◌≡◌, drop, All, table_view, items_view, HasLevelInRange, rows_from, verbosity_row, verbosities_in}
 use Rattle.script_tables.proofs.report_tables.read_verbosities.Given as goal
 
 -- the rows so far, and those of the elements that are left

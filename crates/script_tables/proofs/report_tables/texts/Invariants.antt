@@ -1,8 +1,4 @@
-use Rattle.std.proofs.Common.{◌≡◌, drop, map}
-use Rattle.toml.specs.View.{view, items_view}
-use Rattle.script_values.specs.Values.{text_in}
-use Rattle.script_values.specs.Elements.{rows_from}
-use Rattle.script_tables.specs.ReportTables.{texts_in}
+use Rattle.script_tables.proofs.Common.{◌≡◌, drop, map, view, items_view, text_in, rows_from, texts_in}
 use Rattle.script_tables.proofs.report_tables.texts.Given as goal
 
 -- the texts so far, and those of the elements that are left

@@ -1,6 +1,4 @@
-use Rattle.std.proofs.lemmas.List.Elements.{All-push}
-use Rattle.script_tables.specs.Rows.{CanOverride}
-use Rattle.script_tables.specs.Tables.{override_row}
+use Rattle.script_tables.proofs.Common.{All-push, CanOverride, override_row}
 use Rattle.script_tables.proofs.RowsRead.{row-read}
 use Rattle.script_tables.proofs.tables.read_overrides.Goals as goal
 

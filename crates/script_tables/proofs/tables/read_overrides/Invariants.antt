@@ -1,8 +1,4 @@
-use Rattle.std.proofs.Common.{◌≡◌, drop, All}
-use Rattle.toml.specs.View.{table_view, items_view}
-use Rattle.script_tables.specs.Rows.{CanOverride}
-use Rattle.script_values.specs.Elements.{rows_from}
-use Rattle.script_tables.specs.Tables.{override_row, overrides_in}
+use Rattle.script_tables.proofs.Common.{◌≡◌, drop, All, table_view, items_view, CanOverride, rows_from, override_row, overrides_in}
 use Rattle.script_tables.proofs.tables.read_overrides.Given as goal
 
 -- the rows so far, and those of the elements that are left

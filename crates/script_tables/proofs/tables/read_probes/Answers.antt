@@ -1,6 +1,4 @@
-use Rattle.std.proofs.lemmas.List.Elements.{All-push}
-use Rattle.script_tables.specs.Rows.{CanProbe}
-use Rattle.script_tables.specs.Tables.{probe_row}
+use Rattle.script_tables.proofs.Common.{All-push, CanProbe, probe_row}
 use Rattle.script_tables.proofs.RowsRead.{row-read}
 use Rattle.script_tables.proofs.tables.read_probes.Goals as goal
 

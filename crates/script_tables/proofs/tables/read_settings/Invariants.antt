@@ -1,8 +1,4 @@
-use Rattle.std.proofs.Common.{◌≡◌, ◌≤◌, length, drop}
-use Rattle.toml.specs.View.{table_view, items_view}
-use Rattle.uvm_config.specs.Answers.{most_settings}
-use Rattle.script_values.specs.Elements.{rows_from}
-use Rattle.script_tables.specs.Tables.{setting_row, settings_in}
+use Rattle.script_tables.proofs.Common.{◌≡◌, ◌≤◌, length, drop, table_view, items_view, most_settings, rows_from, setting_row, settings_in}
 use Rattle.script_tables.proofs.tables.read_settings.Given as goal
 
 -- the rows so far, and those of the elements that are left

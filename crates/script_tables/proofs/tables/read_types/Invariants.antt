@@ -1,8 +1,4 @@
-use Rattle.std.proofs.Common.{◌≡◌, ◌≤◌, length, drop}
-use Rattle.toml.specs.View.{table_view, items_view}
-use Rattle.uvm_factory.specs.Faults.{most_types}
-use Rattle.script_values.specs.Elements.{rows_from}
-use Rattle.script_tables.specs.Tables.{type_row, types_in}
+use Rattle.script_tables.proofs.Common.{◌≡◌, ◌≤◌, length, drop, table_view, items_view, most_types, rows_from, type_row, types_in}
 use Rattle.script_tables.proofs.tables.read_types.Given as goal
 
 -- the types so far, and those of the elements that are left

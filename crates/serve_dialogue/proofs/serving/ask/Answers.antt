@@ -1,10 +1,5 @@
-use Rattle.std.proofs.Common.{◌≡◌, ◌∙◌, None, inr, subst, sym}
+use Rattle.serve_dialogue.proofs.Common.{◌≡◌, ◌∙◌, None, inr, subst, sym, answer_text, acts_by, object_of, scripted_of, said, IsViolation}
 use Rattle.bench_history.specs.Cases as next
-use Rattle.client_answers.specs.Answers.{answer_text}
-use Rattle.scripted_seats.specs.Seats.{acts_by, object_of}
-use Rattle.serve_dialogue.specs.Scripted.{scripted_of}
-use Rattle.serve_dialogue.specs.Spoken.{said}
-use Rattle.serve_dialogue.specs.Steps.{IsFlaw}
 use Rattle.serve_dialogue.proofs.Asks.{answered_so, asked_by_call, call_marks, client_call, if_memory, if_ok, none_mapped}
 use Rattle.serve_dialogue.proofs.Filled.{client_answered}
 use Rattle.serve_dialogue.proofs.serving.ask.Goals as goal
@@ -24,7 +19,7 @@ returns-in-Err-clause-err g c =
       marked = call_marks answers core.standing core.script core.history c.args.who.now asks.call asks.origin _ asks.stands asks.comes bare c.in_ok-push_ask.ensures.marked c.requires.backs c.requires.marked;
       line_stays = c.send.ensures.count;
       flaw =
-          subst (λ (comes : next.Next). IsFlaw g.C.Client.spoke g.C.Client.ended g.C.Client.line answers comes c.in-Err.error c.send.new.client c.read_acts.new.self) (sym (client_call answers core.script core.history c.args.who.now asks.call asks.origin asks.comes bare))
+          subst (λ (comes : next.Next). IsViolation g.C.Client.spoke g.C.Client.ended g.C.Client.line answers comes c.in-Err.error c.send.new.client c.read_acts.new.self) (sym (client_call answers core.script core.history c.args.who.now asks.call asks.origin asks.comes bare))
           c.in-Err.ensures.err;
       number = c.in-Err.ensures.number;
     }

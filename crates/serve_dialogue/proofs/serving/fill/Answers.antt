@@ -1,8 +1,4 @@
-use Rattle.std.proofs.Common.{◌≡◌, ◌∙◌, ap, inr, subst, sym, Some}
-use Rattle.std.specs.Option.{option_copied}
-use Rattle.bench_core.specs.Cores.{need_of}
-use Rattle.client_answers.specs.Answers.{made_text}
-use Rattle.serve_dialogue.specs.Apart.{AreMarkedLines}
+use Rattle.serve_dialogue.proofs.Common.{◌≡◌, ◌∙◌, ap, inr, subst, sym, Some, option_copied, need_of, made_text, AreMarkedLines}
 use Rattle.serve_dialogue.proofs.Asks.{answered_so, asked_by_need, memory_ran_out, need_marks}
 use Rattle.serve_dialogue.proofs.Filled.{client_made}
 use Rattle.serve_dialogue.proofs.serving.fill.Goals as goal

@@ -1,6 +1,4 @@
-use Rattle.std.proofs.Common.{◌∙◌, ap, inl, rules}
-use Rattle.bench_core.specs.Cores.{Asked, CoreValue, Needed}
-use Rattle.scripted_seats.specs.Seats.{SeatsValue}
+use Rattle.serve_dialogue.proofs.Common.{◌∙◌, ap, inl, rules, Asked, CoreValue, Needed, SeatsValue}
 use Rattle.serve_dialogue.proofs.Asks.{error_comes, memory_ran_out}
 use Rattle.serve_dialogue.proofs.Turns.{asked_follow, asked_grows, asked_halts, asked_seated, asks, asks_next, leaver_left, moved_follow, moved_grows, needs, over_ends}
 use Rattle.serve_dialogue.proofs.serving.make_entry.Goals as goal

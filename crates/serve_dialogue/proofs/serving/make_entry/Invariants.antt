@@ -1,6 +1,4 @@
-use Rattle.std.proofs.Common.{◌≡◌, ◌++◌, length}
-use Rattle.serve_dialogue.specs.Apart.{AreMarkedLines}
-use Rattle.serve_dialogue.specs.Dialogue.{backs_of}
+use Rattle.serve_dialogue.proofs.Common.{◌≡◌, ◌++◌, length, AreMarkedLines, backs_of}
 use Rattle.serve_dialogue.proofs.Turns.{notices_of}
 use Rattle.serve_dialogue.proofs.serving.make_entry.Given as goal
 

@@ -1,10 +1,4 @@
-use Rattle.std.proofs.Common.{◌∙◌, List, ap, refl, rules, subst, sym}
-use Rattle.bench_history.specs.Next.{next_of}
-use Rattle.bench_history.specs.Sequences.{leaving_of}
-use Rattle.bench_core.specs.Cores.{CoreValue}
-use Rattle.scripted_objects.specs.Answers.{TypeValue}
-use Rattle.serve_dialogue.specs.Seating.{SeatsFollow}
-use Rattle.serve_dialogue.specs.Steps.{Grows, HasEndedRun}
+use Rattle.serve_dialogue.proofs.Common.{◌∙◌, List, ap, refl, rules, subst, sym, next_of, leaving_of, CoreValue, TypeValue, SeatsFollow, Grows, HasEndedRun}
 use Rattle.serve_dialogue.proofs.ApartLines.{apart-none}
 use Rattle.serve_dialogue.proofs.Begins.{drawn-none, no_log}
 use Rattle.serve_dialogue.proofs.Grown.{apart_more, drawn_more, follow_answers, script_more, seated_more, served_whole, spoke_more, told_more}
@@ -63,4 +57,4 @@ returns-clause-served g c =
     let ends : HasEndedRun g.C.Client.spoke g.C.Client.ended g.C.Client.line answers c.loop-core.core c.make_entry.new.core c.loop-core.client c.make_entry.new.client =
     subst (λ (a : List TypeValue). HasEndedRun g.C.Client.spoke g.C.Client.ended g.C.Client.line a c.loop-core.core c.make_entry.new.core c.loop-core.client c.make_entry.new.client) inv.answers (rw c.if-branch.false at (c.in_ok-make_entry.ensures.ok)) in
     served_whole g.C.Client.spoke g.C.Client.ended g.C.Client.line answers g.met.C.Client.joined (g.R.Rng.stream c.args.words.now) c.args.core.now.script c.args.trace c.loop-core.core c.make_entry.new.core c.args.client.now c.loop-core.client c.make_entry.new.client
-    c.tell_summary.new.client c.ending_of.result inv.script inv.legal inv.drawn.words inv.told inv.by_script inv.apart inv.talk.talk ends c.in_ok-tell_summary.ensures.ok c.in_ok-tell_summary.ensures.plain c.ending_of.ensures
+    c.tell_summary.new.client c.run_result_of.result inv.script inv.legal inv.drawn.words inv.told inv.by_script inv.apart inv.talk.talk ends c.in_ok-tell_summary.ensures.ok c.in_ok-tell_summary.ensures.plain c.run_result_of.ensures

@@ -1,16 +1,4 @@
-use Rattle.std.proofs.Common.{◌≡◌, ◌-◌, length}
-use Rattle.bench_history.specs.Limits.{log_limit}
-use Rattle.bench_history.specs.Next.{IsLegal}
-use Rattle.bench_history.specs.Sequences.{leaving_of}
-use Rattle.bench_core.specs.Cores.{Nothing}
-use Rattle.bench_core.specs.declared.cores.Health.TheVariants.{Good}
-use Rattle.bench_run.specs.Words.{AreDrawn}
-use Rattle.bench_run.specs.Running.{transcript}
-use Rattle.serve_dialogue.specs.Apart.{TellsApart}
-use Rattle.serve_dialogue.specs.Dialogue.{AreTold, dialogue}
-use Rattle.serve_dialogue.specs.Scripted.{AreByScript, AreSeated}
-use Rattle.serve_dialogue.specs.Served.{SpokeLog}
-use Rattle.serve_dialogue.specs.Spoken.{said_in}
+use Rattle.serve_dialogue.proofs.Common.{◌≡◌, ◌-◌, length, log_limit, IsLegal, leaving_of, Good, AreDrawn, transcript, TellsApart, AreTold, dialogue, AreByScript, AreSeated, SpokeLog, said_in, Nothing}
 use Rattle.serve_dialogue.proofs.serving.serve_core.Given as goal
 
 -- the dialogue of the log so far was spoken, and its transcript can be told apart; its random numbers were drawn

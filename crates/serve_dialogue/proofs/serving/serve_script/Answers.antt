@@ -1,5 +1,4 @@
-use Rattle.std.proofs.Common.{[], inl, refl, arith}
-use Rattle.bench_run.specs.Texts.{some-room}
+use Rattle.serve_dialogue.proofs.Common.{[], inl, refl, arith, some-room}
 use Rattle.serve_dialogue.proofs.ApartLines.{apart-none}
 use Rattle.serve_dialogue.proofs.Begins.{no_log}
 use Rattle.serve_dialogue.proofs.serving.serve_script.Goals as goal

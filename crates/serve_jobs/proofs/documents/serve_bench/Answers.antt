@@ -1,5 +1,5 @@
 use Rattle.std.specs.Prelude.{option_copied}
-use Rattle.bus_jobs.specs.Runs.{words_of_seed}
+use Rattle.script_input.specs.Scripts.{words_of_seed}
 use Rattle.serve_jobs.proofs.Wholes.{bench_of_whole}
 use Rattle.serve_jobs.proofs.documents.serve_bench.Goals as goal
 

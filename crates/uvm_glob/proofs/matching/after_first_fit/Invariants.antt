@@ -1,6 +1,5 @@
 -- What the text has from this place on decides.
-use Rattle.std.proofs.Common.{◌≡◌, drop}
-use Rattle.uvm_glob.specs.Parts.{after_first_fit}
+use Rattle.uvm_glob.proofs.Common.{◌≡◌, drop, after_first_fit}
 use Rattle.uvm_glob.proofs.matching.after_first_fit.Given as goal
 
 abbrev pub invariant-loop-place : goal.invariant-loop-place

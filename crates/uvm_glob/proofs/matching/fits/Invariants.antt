@@ -1,6 +1,5 @@
 -- What the part and the text have from the place on decides.
-use Rattle.std.proofs.Common.{◌≡◌, drop}
-use Rattle.uvm_glob.specs.Parts.{fits}
+use Rattle.uvm_glob.proofs.Common.{◌≡◌, drop, fits}
 use Rattle.uvm_glob.proofs.matching.fits.Given as goal
 
 abbrev pub invariant-loop-i : goal.invariant-loop-i

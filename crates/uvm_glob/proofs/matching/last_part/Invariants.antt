@@ -1,7 +1,5 @@
 -- There is no star from this place on.
-use Rattle.std.proofs.Common.{◌≡◌, drop, false}
-use Rattle.std.specs.List.{list_any}
-use Rattle.uvm_glob.specs.Parts.{is_star}
+use Rattle.uvm_glob.proofs.Common.{◌≡◌, drop, false, list_any, is_star}
 use Rattle.uvm_glob.proofs.matching.last_part.Given as goal
 
 abbrev pub invariant-loop-i : goal.invariant-loop-i

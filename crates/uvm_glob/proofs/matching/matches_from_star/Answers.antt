@@ -1,5 +1,5 @@
 -- What the glob that is left says of the text that is left, at each way out of the loop and round it.
-use Rattle.std.proofs.Common.{Some, None}
+use Rattle.uvm_glob.proofs.Common.{Some, None}
 use Rattle.uvm_glob.proofs.Splits.{nothing_left, star_leaves, last_behind_star, part_behind_star}
 use Rattle.uvm_glob.proofs.matching.matches_from_star.Goals as goal
 

@@ -1,7 +1,5 @@
 -- The glob that is left begins with a star, and decides.
-use Rattle.std.proofs.Common.{◌≡◌, true, length}
-use Rattle.uvm_glob.specs.Globs.{matches}
-use Rattle.uvm_glob.specs.Parts.{begins_with_star}
+use Rattle.uvm_glob.proofs.Common.{◌≡◌, true, length, matches, begins_with_star}
 use Rattle.uvm_glob.proofs.matching.matches_from_star.Given as goal
 
 abbrev pub invariant-loop-star : goal.invariant-loop-star

@@ -1,5 +1,5 @@
 -- The part before the first star stands at the front, and the rest of the glob after it.
-use Rattle.std.proofs.lemmas.List.{take_rest}
+use Rattle.uvm_glob.proofs.Common.{take_rest}
 use Rattle.uvm_glob.proofs.Splits.{front_part}
 use Rattle.uvm_glob.proofs.matching.matches_parts.Goals as goal
 

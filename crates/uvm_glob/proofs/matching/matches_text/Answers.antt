@@ -1,6 +1,5 @@
 -- The last part of the glob stands at the end of each text that it matches.
-use Rattle.std.proofs.Common.{◌≡◌, false, length, ◌-◌, sym, ◌∙◌}
-use Rattle.uvm_glob.specs.Globs.{matches}
+use Rattle.uvm_glob.proofs.Common.{◌≡◌, false, length, ◌-◌, sym, ◌∙◌, matches}
 use Rattle.uvm_glob.proofs.Ends.{ends_otherwise}
 use Rattle.uvm_glob.proofs.Meaning.{matches_means}
 use Rattle.uvm_glob.proofs.matching.matches_text.Goals as goal

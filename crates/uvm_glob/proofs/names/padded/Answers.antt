@@ -1,4 +1,4 @@
-use Rattle.std.proofs.lemmas.List.{drop-replicate}
+use Rattle.uvm_glob.proofs.Common.{drop-replicate}
 use Rattle.uvm_glob.proofs.names.padded.Goals as goal
 
 -- what follows the bytes is what is left of the zeros

@@ -1,6 +1,5 @@
 -- The rests of the two texts first differ as the texts do.
-use Rattle.std.proofs.Common.{◌≡◌, length}
-use Rattle.uvm_glob.specs.Differences.{first_difference}
+use Rattle.uvm_glob.proofs.Common.{◌≡◌, length, first_difference}
 use Rattle.uvm_glob.proofs.orders.first_difference.Given as goal
 
 abbrev pub invariant-loop-mine : goal.invariant-loop-mine

@@ -1,4 +1,5 @@
-use Rattle.std.proofs.Common.{◌≡◌, ◌==◌, ◌≤◌, take, count_by}
+use Rattle.uvm_glob.proofs.Common.{◌≡◌, ◌==◌, ◌≤◌, take}
+use Rattle.std.proofs.Common.{count_by}
 use Rattle.uvm_glob.proofs.paths.count_dots.Given as goal
 
 -- those so far are counted

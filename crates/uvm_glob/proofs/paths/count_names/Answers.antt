@@ -1,4 +1,4 @@
-use Rattle.std.proofs.Common.{◌+◌, ◌∙◌, sym, ap}
+use Rattle.uvm_glob.proofs.Common.{◌+◌, ◌∙◌, sym, ap}
 use Rattle.uvm_glob.proofs.PathTexts.{length-names_of}
 use Rattle.uvm_glob.proofs.paths.count_names.Goals as goal
 

@@ -1,6 +1,4 @@
-use Rattle.std.proofs.Common.{◌==◌, length, rules, tests}
-use Rattle.std.proofs.lemmas.Iterator.Search.{any_from_yields_List}
-use Rattle.std.proofs.lemmas.Iterator.Splits.{YieldsList-from_slice_split}
+use Rattle.uvm_glob.proofs.Common.{◌==◌, length, rules, tests, any_from_yields_List, YieldsList-from_slice_split}
 use Rattle.uvm_glob.proofs.paths.has_empty_name.Goals as goal
 
 -- the call goes over what stands between the dots

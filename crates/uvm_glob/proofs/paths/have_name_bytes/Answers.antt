@@ -1,8 +1,4 @@
-use Rattle.std.proofs.Common.{◌==◌, rules, tests}
-use Rattle.std.specs.List.{list_all}
-use Rattle.std.proofs.lemmas.Iterator.Search.{all_from_yields_List}
-use Rattle.std.proofs.lemmas.Iterator.Splits.{YieldsList-from_slice_split}
-use Rattle.uvm_glob.specs.Names.{is_name_byte}
+use Rattle.uvm_glob.proofs.Common.{◌==◌, rules, tests, list_all, all_from_yields_List, YieldsList-from_slice_split, is_name_byte}
 use Rattle.uvm_glob.proofs.paths.have_name_bytes.Goals as goal
 
 -- the call goes over what stands between the dots

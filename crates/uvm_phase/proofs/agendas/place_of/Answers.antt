@@ -1,5 +1,4 @@
-use Rattle.std.proofs.Common.{rules}
-use Rattle.std.proofs.lemmas.List.Sorted.{IsPartitionPoint-from_clause}
+use Rattle.uvm_phase.proofs.Common.{rules, IsPartitionPoint-from_clause}
 use Rattle.uvm_phase.proofs.Places.{is_not_after, is_partitioned, stands-between}
 use Rattle.uvm_phase.proofs.agendas.place_of.Goals as goal
 

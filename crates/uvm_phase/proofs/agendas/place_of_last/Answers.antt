@@ -1,4 +1,4 @@
-use Rattle.std.proofs.Common.{rules}
+use Rattle.uvm_phase.proofs.Common.{rules}
 use Rattle.uvm_phase.proofs.Owning.{has-at}
 use Rattle.uvm_phase.proofs.agendas.place_of_last.Goals as goal
 

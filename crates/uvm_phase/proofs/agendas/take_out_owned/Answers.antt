@@ -1,6 +1,4 @@
-use Rattle.std.proofs.Common.{◌≡◌, ◌<◌, ◌∙◌, rules, length, filter}
-use Rattle.std.specs.VecDeque.{deque_len}
-use Rattle.uvm_phase.specs.Owners.{HasAt}
+use Rattle.uvm_phase.proofs.Common.{◌≡◌, ◌<◌, ◌∙◌, rules, length, filter, deque_len, HasAt}
 use Rattle.uvm_phase.proofs.Owning.{times-due, without-only, has-within, removed}
 use Rattle.uvm_phase.proofs.agendas.take_out_owned.Goals as goal
 

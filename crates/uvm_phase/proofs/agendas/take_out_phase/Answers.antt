@@ -1,5 +1,4 @@
-use Rattle.std.proofs.Common.{rules}
-use Rattle.std.proofs.lemmas.Fn.{filter_same}
+use Rattle.uvm_phase.proofs.Common.{rules, filter_same}
 use Rattle.uvm_phase.proofs.agendas.take_out_phase.Goals as goal
 
 pub returns-clause-left : goal.returns-clause-left

@@ -1,6 +1,4 @@
-use Rattle.std.proofs.Common.{arith, rules}
-use Rattle.std.proofs.lemmas.Grind.{common_steps}
-use Rattle.uvm_report.specs.Plain.{plain-append}
+use Rattle.uvm_report.proofs.Common.{arith, rules, common_steps, plain-append}
 use Rattle.uvm_report.proofs.lines.push_id_counts.Goals as goal
 
 pub loop-id-preserved : goal.loop-id-preserved

@@ -1,7 +1,4 @@
-use Rattle.std.proofs.Common.{◌≡◌, ◌++◌}
-use Rattle.std.specs.List.{flat_map}
-use Rattle.uvm_report.specs.Lines.{id_line}
-use Rattle.uvm_report.specs.Plain.{ArePlainLines}
+use Rattle.uvm_report.proofs.Common.{◌≡◌, ◌++◌, flat_map, id_line, ArePlainLines}
 use Rattle.uvm_report.proofs.lines.push_id_counts.Given as goal
 
 -- the lines of the ids that are left complete the text, and if they are lines of a transcript, so are all

@@ -1,6 +1,4 @@
-use Rattle.std.proofs.Common.{◌<◌, length, arith}
-use Rattle.std.proofs.lemmas.Grind.{common_steps}
-use Rattle.uvm_report.specs.Lines.{severity_line}
+use Rattle.uvm_report.proofs.Common.{◌<◌, arith, common_steps, severity_line, length}
 use Rattle.uvm_report.proofs.PlainLines.{plain-more}
 use Rattle.uvm_report.proofs.lines.push_severity_counts.Goals as goal
 

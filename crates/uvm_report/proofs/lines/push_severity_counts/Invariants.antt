@@ -1,7 +1,4 @@
-use Rattle.std.proofs.Common.{◌≡◌, ◌++◌, take}
-use Rattle.std.specs.List.{flat_map}
-use Rattle.uvm_report.specs.Lines.{severity_line}
-use Rattle.uvm_report.specs.Plain.{ArePlainLines}
+use Rattle.uvm_report.proofs.Common.{◌≡◌, ◌++◌, take, flat_map, severity_line, ArePlainLines}
 use Rattle.uvm_report.proofs.lines.push_severity_counts.Given as goal
 
 -- the lines of the severities so far

@@ -1,6 +1,4 @@
-use Rattle.std.proofs.Common.{◌≡◌, ℕ, List, ◌++◌, codes, append_assoc}
-use Rattle.std.specs.List.{flat_map}
-use Rattle.uvm_report.specs.Lines.{line, limit_line, severity_line, severities, id_line, summary_text}
+use Rattle.uvm_report.proofs.Common.{◌≡◌, ℕ, List, ◌++◌, codes, append_assoc, flat_map, line, limit_line, severity_line, severities, id_line, summary_text}
 use Rattle.uvm_report.proofs.lines.push_summary.Goals as goal
 
 -- one part after another

@@ -1,6 +1,4 @@
-use Rattle.std.proofs.Common.{◌≡◌, nat_eq, unwrap_or, ◌∙◌, arith, rules}
-use Rattle.std.specs.Map.{lookup}
-use Rattle.std.specs.Cmp.Lexicographic.{pointwise}
+use Rattle.uvm_report.proofs.Common.{◌≡◌, nat_eq, unwrap_or, ◌∙◌, arith, rules, lookup, pointwise}
 use Rattle.uvm_report.proofs.Counted.{number-le-all, with_id-insert}
 use Rattle.uvm_report.proofs.tallies.add_id.Goals as goal
 

@@ -1,5 +1,4 @@
-use Rattle.std.proofs.Common.{rules}
-use Rattle.std.proofs.lemmas.Fn.{filter_same}
+use Rattle.uvm_sequencer.proofs.Common.{rules, filter_same}
 use Rattle.uvm_sequencer.proofs.requests.keep_live.Goals as goal
 
 pub returns : goal.returns

@@ -1,12 +1,4 @@
-use Rattle.std.proofs.Common.{◌≡◌, ◌∙◌, ◌≤◌, ℕ, Bool, true, false, not, cond, ltb, Some, None, length, refl, ap, arith, rules, tests}
-use Rattle.std.specs.List.{position_or_len}
-use Rattle.std.specs.Option.{unwrap_or}
-use Rattle.std.proofs.lemmas.Bool.Decides.{nat_tests}
-use Rattle.std.proofs.lemmas.Iterator.{YieldsList-from_slice}
-use Rattle.std.proofs.lemmas.Iterator.Search.{position_from_yields_List}
-use Rattle.std.proofs.lemmas.List.Sums.{prefix_len-le-length}
-use Rattle.uvm_sequencer.specs.declared.requests.Request.{Request}
-use Rattle.uvm_sequencer.specs.Queues.{is_blocked}
+use Rattle.uvm_sequencer.proofs.Common.{◌≡◌, ◌∙◌, ◌≤◌, ℕ, Bool, true, false, not, cond, ltb, Some, None, length, refl, ap, arith, rules, tests, position_or_len, unwrap_or, nat_tests, YieldsList-from_slice, position_from_yields_List, prefix_len-le-length, Request, is_blocked}
 use Rattle.uvm_sequencer.proofs.scans.count_passed.Goals as goal
 
 -- where none is found, all stand in front

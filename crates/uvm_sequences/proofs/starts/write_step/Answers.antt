@@ -1,5 +1,4 @@
-use Rattle.std.proofs.Common.{◌≡◌, ◌∙◌, sym, arith, refl, None, ◌<◌, ◌≤◌, length, rules}
-use Rattle.uvm_sequences.specs.Kept.{place_in}
+use Rattle.uvm_sequences.proofs.Common.{◌≡◌, ◌∙◌, sym, arith, refl, None, ◌<◌, ◌≤◌, length, rules, place_in}
 use Rattle.uvm_sequences.proofs.Steps.{written-none, written-past, written-step, written-start}
 use Rattle.uvm_sequences.proofs.starts.write_step.Goals as goal
 

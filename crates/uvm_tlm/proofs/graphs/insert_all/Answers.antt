@@ -1,6 +1,4 @@
-use Rattle.std.proofs.Common.{nat_eq, take, ap, sym, ◌∙◌}
-use Rattle.std.proofs.lemmas.List.Sums.{fold_more}
-use Rattle.indexmap.specs.IndexSet.{insert_key, insert_all}
+use Rattle.uvm_tlm.proofs.Common.{nat_eq, take, ap, sym, ◌∙◌, fold_more, insert_key, insert_all}
 use Rattle.uvm_tlm.proofs.graphs.insert_all.Goals as goal
 
 pub loop-node-preserved : goal.loop-node-preserved

@@ -1,5 +1,4 @@
-use Rattle.std.proofs.Common.{◌≡◌, nat_eq, take}
-use Rattle.indexmap.specs.IndexSet.{insert_all}
+use Rattle.uvm_tlm.proofs.Common.{◌≡◌, nat_eq, take, insert_all}
 use Rattle.uvm_tlm.proofs.graphs.insert_all.Given as goal
 
 -- the nodes so far are inserted

@@ -1,9 +1,4 @@
-use Rattle.std.proofs.Common.{◌≤◌, ◌∙◌, [], nat_eq, take, length, ap, sym, arith}
-use Rattle.std.specs.Map.{keys_of}
-use Rattle.std.proofs.lemmas.List.{take_all}
-use Rattle.std.proofs.lemmas.List.Sums.{fold_more}
-use Rattle.indexmap.specs.IndexSet.{insert_key, insert_all}
-use Rattle.indexmap.proofs.SetLemmas.{keys_insert_entry}
+use Rattle.uvm_tlm.proofs.Common.{◌≤◌, ◌∙◌, [], nat_eq, take, length, ap, sym, arith, keys_of, take_all, fold_more, insert_key, insert_all, keys_insert_entry}
 use Rattle.uvm_tlm.proofs.Sets.{set-is}
 use Rattle.uvm_tlm.proofs.graphs.places_of.Goals as goal
 

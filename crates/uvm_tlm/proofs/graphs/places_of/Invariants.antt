@@ -1,6 +1,4 @@
-use Rattle.std.proofs.Common.{◌≡◌, [], nat_eq, take}
-use Rattle.std.specs.HashMap.{keys}
-use Rattle.indexmap.specs.IndexSet.{insert_all}
+use Rattle.uvm_tlm.proofs.Common.{◌≡◌, [], nat_eq, take, keys, insert_all}
 use Rattle.uvm_tlm.proofs.graphs.places_of.Given as goal
 
 -- the nodes so far have their places

@@ -1,5 +1,4 @@
-use Rattle.std.proofs.Common.{length, get_or, ap, ◌∙◌, arith}
-use Rattle.uvm_tlm.specs.NodeLists.{list_of}
+use Rattle.uvm_tlm.proofs.Common.{length, get_or, ap, ◌∙◌, arith, list_of}
 use Rattle.uvm_tlm.proofs.Noted.{element_noted}
 use Rattle.uvm_tlm.proofs.graphs.push_to_all.Goals as goal
 

@@ -1,6 +1,4 @@
-use Rattle.std.proofs.Common.{◌≡◌, ◌++◌, ◌∷◌, [], ℕ, take, if◌then◌else◌}
-use Rattle.uvm_tlm.specs.NodeLists.{list_of}
-use Rattle.uvm_tlm.specs.Graphs.{has}
+use Rattle.uvm_tlm.proofs.Common.{◌≡◌, ◌++◌, ◌∷◌, [], ℕ, take, if◌then◌else◌, list_of, has}
 use Rattle.uvm_tlm.proofs.graphs.push_to_all.Given as goal
 
 -- the element stands behind the others at the nodes so far

@@ -1,6 +1,4 @@
-use Rattle.std.proofs.Common.{◌≡◌, ◌∙◌, true, sym}
-use Rattle.uvm_tlm.specs.NodeLists.{list_of}
-use Rattle.uvm_tlm.specs.Graphs.{is_connected}
+use Rattle.uvm_tlm.proofs.Common.{◌≡◌, ◌∙◌, true, sym, list_of, is_connected}
 use Rattle.uvm_tlm.proofs.Noted.{made_noted, not-new, start_known, start_noted}
 use Rattle.uvm_tlm.proofs.graphs.starts.Goals as goal
 use Rattle.uvm_tlm.proofs.graphs.starts.Goals.{then-branch+in_ok-push, else-branch}

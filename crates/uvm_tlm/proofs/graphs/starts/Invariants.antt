@@ -1,6 +1,4 @@
-use Rattle.std.proofs.Common.{◌≡◌, ℕ, take}
-use Rattle.uvm_tlm.specs.NodeLists.{list_of}
-use Rattle.uvm_tlm.specs.Graphs.{has, is_connected}
+use Rattle.uvm_tlm.proofs.Common.{◌≡◌, ℕ, take, list_of, has, is_connected}
 use Rattle.uvm_tlm.proofs.graphs.starts.Given as goal
 
 -- the starts of the connections so far, which are all made

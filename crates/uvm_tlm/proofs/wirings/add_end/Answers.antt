@@ -1,6 +1,4 @@
-use Rattle.std.proofs.Common.{nat_eq, Some, cond, ap, ◌∙◌}
-use Rattle.std.specs.HashMap.{get}
-use Rattle.indexmap.proofs.CallerLemmas.{insert_entry-new}
+use Rattle.uvm_tlm.proofs.Common.{nat_eq, Some, cond, ap, ◌∙◌, get, insert_entry-new}
 use Rattle.uvm_tlm.proofs.Lists.{eqb-flip}
 use Rattle.uvm_tlm.proofs.wirings.add_end.Goals as goal
 

@@ -1,17 +1,5 @@
-use Rattle.std.proofs.Common.{◌∙◌, length, filter, Some, is_some, refl, rules}
-use Rattle.uvm_acts.specs.declared.acts.Who.TheVariants.{Sequence}
+use Rattle.world_entries.proofs.Common.{◌∙◌, length, filter, Some, is_some, refl, rules, Sequence, Grant, Granted, Object, finished_of, phase_begun, caused_at, scheduled_events, delivered_causes, is_open, now_of, ended_of, objections_of, events-told, agenda-event, living-unended, there-open, later}
 use Rattle.uvm_acts.specs.declared.acts.Call.TheVariants as calls
-use Rattle.uvm_object.specs.declared.entries.Grant.{Grant}
-use Rattle.uvm_object.specs.declared.entries.Entry.TheVariants.{Granted}
-use Rattle.bench_history.specs.declared.owners.Owner.TheVariants.{Object}
-use Rattle.bench_history.specs.Sequences.{finished_of, phase_begun}
-use Rattle.bench_history.specs.Dues.{caused_at, caused_of, heard_of, is_open}
-use Rattle.bench_history.specs.History.{now_of, ended_of}
-use Rattle.bench_history.specs.Objections.{objections_of}
-use Rattle.world_agenda.proofs.Drained.{events-told}
-use Rattle.world_agenda.proofs.Told.{agenda-event}
-use Rattle.world_services.proofs.Opened.{living-unended, there-open}
-use Rattle.world_services.proofs.Later.{later}
 use Rattle.world_entries.proofs.Granted.{chosen-known, granted-kept, living-phase, served-there}
 use Rattle.world_entries.proofs.grants.grant.Goals as goal
 
@@ -26,7 +14,7 @@ returns-clause-chosen c = λ script before m. chosen-known m c.args.sequencer c.
 
 pub returns-clause-goes_on : goal.returns-clause-goes_on
 returns-clause-goes_on c = λ script before coming m.
-    let told = c.in_ok-tell_to.ensures in
+    let told = c.in_ok-schedule_call.ensures in
     let id = c.choose_at-id.result in
     let grant : Grant = record { id = id; word = c.args.word } in
     let call = calls.Grant in
@@ -36,8 +24,8 @@ returns-clause-goes_on c = λ script before coming m.
     let living = c.chosen_are_there.ensures script before c.args.sequencer id (is_some c.args.word) _ c.args.word coming.each coming.next chosen in
     let phase = (rw c.as_slice.ensures.value at c.phase_at-phase.ensures) ∙ living-phase m id living in
     let unended = living-unended before id living.lives in
-    let dues = rw (phase, m.time, ← coming.place_is, c.in_ok-held.ensures.ok) at (told.dues (filter (is_open (heard_of before) (ended_of before) (finished_of before)) (caused_of script before)) m.agenda.are) in
-    let events = events-told (λ phase. objections_of script phase before) (is_open (heard_of before) (ended_of before) (finished_of before)) (phase_begun before id) (now_of before) (caused_at (length before)) (Sequence c.args.sequencer id) call (caused_of script before) m.events in
-    let agenda = agenda-event (Object (Sequence c.args.sequencer id)) (Some call) (now_of before) (phase_begun before id) (caused_of script before) (heard_of before) (ended_of before) (finished_of before) _ _ _ unended (there-open before (Sequence c.args.sequencer id) living) m.agenda dues in
+    let dues = rw (phase, m.time, ← coming.place_is, c.in_ok-held.ensures.ok) at (told.dues (filter (is_open (delivered_causes before) (ended_of before) (finished_of before)) (scheduled_events script before)) m.agenda.are) in
+    let events = events-told (λ phase. objections_of script phase before) (is_open (delivered_causes before) (ended_of before) (finished_of before)) (phase_begun before id) (now_of before) (caused_at (length before)) (Sequence c.args.sequencer id) call (scheduled_events script before) m.events in
+    let agenda = agenda-event (Object (Sequence c.args.sequencer id)) (Some call) (now_of before) (phase_begun before id) (scheduled_events script before) (delivered_causes before) (ended_of before) (finished_of before) _ _ _ unended (there-open before (Sequence c.args.sequencer id) living) m.agenda dues in
     let arbitrating = granted-kept m c.args.sequencer (is_some c.args.word) grant c.choose_at-id.new.arbiters serving.served c.choose_at-id.ensures.after c.passed_stays.ensures c.choose_at-id.ensures.value in
     rw told.rest (search (rules, later))

@@ -1,12 +1,8 @@
-use Rattle.std.proofs.Common.{refl, rules}
-use Rattle.bench_history.specs.History.{stage_of}
-use Rattle.uvm_object.specs.declared.entries.Entry.TheVariants.{Begin}
-use Rattle.world_services.proofs.Later.{later}
-use Rattle.world_services.proofs.Rounding.{rounds-begun}
+use Rattle.world_entries.proofs.Common.{refl, rules, stage_of, Begin, later, phase_cursors-begun}
 use Rattle.world_entries.proofs.phases.begin.Goals as goal
 
 pub returns : goal.returns
 returns c = λ place script history coming m.
     let stays = c.wiring_stays.ensures script history (Begin c.args.phase) (rw coming.next refl) in
-    let turns = rounds-begun (stage_of history) c.args.phase c.begin.ensures m.turns (c.phases_begin_behind.ensures script history c.args.phase coming.next) in
+    let phase_cursors = phase_cursors-begun (stage_of history) c.args.phase c.begin.ensures m.phase_cursors (c.phases_begin_behind.ensures script history c.args.phase coming.next) in
     search (rules, later)

@@ -1,30 +1,7 @@
-use Rattle.std.proofs.Common.{◌≡◌, ◌||◌, ◌∷◌, length, refl, ◌∙◌, ap, filter, rules}
-use Rattle.std.specs.List.{list_any}
-use Rattle.uvm_phase.specs.Phases.{is_runtime}
-use Rattle.uvm_tlm.specs.Wirings.{is_closed}
-use Rattle.uvm_object.specs.declared.entries.Entry.TheVariants.{End}
-use Rattle.bench_history.specs.Sequences.{begun_of, finished_of}
-use Rattle.bench_history.specs.Dues.{caused_of, heard_of, is_open}
+use Rattle.world_entries.proofs.Common.{◌≡◌, ◌||◌, ◌∷◌, length, refl, ◌∙◌, ap, filter, rules, list_any, is_runtime, is_closed, End, starts_of, finished_of, scheduled_events, delivered_causes, is_open, ends_build, nodes_of, ended_of, stage_of, now_of, objections_of, ends_connect, wiring_of, IsClosedPast, IsClosing, IsConnecting, IsSequencing, enders_of, leaving_with, is_told, closing-after, connecting-after, ends-ordered, past-after, events-ended, agenda-ended, agenda-living, events-calls, leaving-known, sequencing-ended, arbitrating-ended, lapsed-known, lapsed-told, reopened, later, fifo_states-ended, fifos_to_settle-ended, phase_cursors-ended, lapsed_with, IsNext}
 use Rattle.bench_history.specs.Dues as dues
-use Rattle.bench_history.specs.History.{ends_build, nodes_of, ended_of, stage_of, now_of}
-use Rattle.bench_history.specs.Objections.{objections_of}
-use Rattle.bench_history.specs.Wires.{ends_connect, wiring_of}
-use Rattle.world_wiring.specs.Connectings.{IsClosedPast, IsClosing, IsConnecting}
-use Rattle.world_sequences.specs.Sequencings.{IsSequencing, enders_of, leaving_with}
-use Rattle.world_agenda.specs.Tellings.{is_told}
-use Rattle.world_wiring.proofs.Connected.{closing-after, connecting-after, ends-ordered, past-after}
-use Rattle.world_agenda.proofs.Drained.{events-ended}
-use Rattle.world_agenda.proofs.Told.{agenda-ended}
-use Rattle.world_agenda.proofs.Written.{agenda-living, events-calls}
-use Rattle.world_sequences.proofs.Ending.{leaving-known, sequencing-ended}
-use Rattle.world_sequencers.proofs.Phased.{arbitrating-ended, lapsed-known, lapsed-told, reopened}
-use Rattle.world_services.proofs.Later.{later}
-use Rattle.world_services.proofs.Passages.{stations-ended, unsettled-ended}
-use Rattle.world_services.proofs.Rounding.{rounds-ended}
 use Rattle.world_entries.proofs.Ended.{beside-past, or-true, order-holds, reopened-is}
 use Rattle.world_entries.proofs.phases.end.Goals as goal
-use Rattle.world_sequencers.specs.Arbiters.{lapsed_with}
-use Rattle.bench_history.specs.Next.{IsNext}
 
 pub close_after-requires : goal.close_after-requires
 close_after-requires c =
@@ -37,7 +14,7 @@ close_after-requires c =
 pub returns-clause-leaving : goal.returns-clause-leaving
 returns-clause-leaving c = λ script before m.
     let phase = c.args.phase in
-    let left : c.in_ok-leaving.leaving.items ≡ leaving_with c.args.services.now.sequences.steps phase c.args.services.now.beginnings.items = rw c.as_slice-beginnings.ensures.value at c.in_ok-leaving.ensures in
+    let left : c.in_ok-leaving.leaving.items ≡ leaving_with c.args.services.now.sequences.steps phase c.args.services.now.start_records.items = rw c.as_slice-start_records.ensures.value at c.in_ok-leaving.ensures in
     left ∙ leaving-known before phase m.sequencing
 
 pub returns-clause-goes_on : goal.returns-clause-goes_on
@@ -46,15 +23,15 @@ returns-clause-goes_on c = λ script before coming m.
     let wiring = c.args.services.now.wiring in
     let phase = c.args.phase in
     let stays = c.wiring_stays.ensures script before (End phase) (rw coming.next refl) in
-    let left : c.in_ok-leaving.leaving.items ≡ leaving_with c.args.services.now.sequences.steps phase c.args.services.now.beginnings.items = rw c.as_slice-beginnings.ensures.value at c.in_ok-leaving.ensures in
+    let left : c.in_ok-leaving.leaving.items ≡ leaving_with c.args.services.now.sequences.steps phase c.args.services.now.start_records.items = rw c.as_slice-start_records.ensures.value at c.in_ok-leaving.ensures in
     let built = c.is_built_with-services.ensures ∙ ap (λ built. ends_build (End phase) || built) m.built in
     let past_connect = c.is_past_connect_with-services.ensures ∙ ap (λ past. ends_connect (End phase) || past) m.past_connect in
     let connecting : IsConnecting (nodes_of before) (wiring_of before) c.close_after.new.wiring = rw (c.in_ok-close_after.ensures, m.tree) (connecting-after phase m.connecting) in
     let closing : IsClosing script (End phase ∷ before) (is_closed c.close_after.new.wiring) = rw c.in_ok-close_after.ensures (closing-after phase nodes wiring c.connect_follows_build.ensures (rw coming.next refl, coming.each) stays m.closing) in
     let closed_past : IsClosedPast (list_any ends_connect (End phase ∷ before)) (is_closed c.close_after.new.wiring) = rw c.in_ok-close_after.ensures (past-after before phase nodes wiring m.closed_past) in
-    let stations = stations-ended before phase {new = c.end_waits.new.stations} c.end_waits.ensures m.stations in
-    let unsettled = unsettled-ended before phase m.unsettled in
-    let sequencing : IsSequencing (begun_of before) (finished_of before) (phase ∷ ended_of before) (enders_of before) c.finish_all.new.sequences c.args.services.now.beginnings.items = sequencing-ended phase c.finish_all.new.sequences (rw (c.as_slice.ensures.value, left) at c.finish_all.ensures) m.sequencing in
+    let fifo_states = fifo_states-ended before phase {new = c.end_waits.new.fifo_states} c.end_waits.ensures m.fifo_states in
+    let fifos_to_settle = fifos_to_settle-ended before phase m.fifos_to_settle in
+    let sequencing : IsSequencing (starts_of before) (finished_of before) (phase ∷ ended_of before) (enders_of before) c.finish_all.new.sequences c.args.services.now.start_records.items = sequencing-ended phase c.finish_all.new.sequences (rw (c.as_slice.ensures.value, left) at c.finish_all.ensures) m.sequencing in
     let runs = c.running_phases_end.ensures script before phase coming.next in
     let next : IsNext script before (End phase) = rw coming.next refl in
     let opens : c.reopened-nodes.result.now ≡ reopened phase (nodes_of before) =
@@ -66,11 +43,11 @@ returns-clause-goes_on c = λ script before coming m.
     kept ∙ lapsed-known script before phase c.living_run.ensures coming.each next steps sequencing.living m.arbitrating c.asks_are_in_phase.ensures runs in
     let arbitrating =
     arbitrating-ended script before phase c.living_run.ensures coming.each next steps sequencing.living {new = c.end_phase.new.arbiters} {after = c.reopen.new.self} (order-holds (nodes_of before) (c.path_order_is_in_order.ensures (nodes_of before))) c.end_phase.ensures (c.in_ok-reopen.ensures.nodes ∙ opens) c.in_ok-reopen.ensures.known m.arbitrating in
-    let turns = rounds-ended (stage_of before) phase runs m.turns in
-    let cleared = agenda-ended (caused_of script before) (heard_of before) (ended_of before) (finished_of before) _ _ _ phase c.order_keeps_filters.ensures m.agenda c.clear.ensures.dues in
+    let phase_cursors = phase_cursors-ended (stage_of before) phase runs m.phase_cursors in
+    let cleared = agenda-ended (scheduled_events script before) (delivered_causes before) (ended_of before) (finished_of before) _ _ _ phase c.order_keeps_filters.ensures m.agenda c.clear.ensures.dues in
     let told = lapsed-told script before phase c.living_run.ensures coming.each next steps sequencing.living m.arbitrating c.asks_are_in_phase.ensures runs c.phases_in_progress_are_open.ensures in
-    let open_ = is_open (heard_of before) (phase ∷ ended_of before) (finished_of before) in
-    let dues_are = rw (c.as_slice-2.ensures.value, lapsed, ← coming.place_is, m.time) at (c.in_ok-tell_each.ensures (filter open_ (caused_of script before)) cleared.are) in
-    let agenda = agenda-living (is_told steps) (heard_of before) (phase ∷ ended_of before) (finished_of before) (now_of before) (dues.lapsed_with phase before) (caused_of script before) (length before) _ _ told cleared dues_are in
-    let events = events-calls (λ phase. objections_of script phase before) open_ (now_of before) (length before) 0 (dues.lapsed_with phase before) (caused_of script before) (events-ended phase (λ phase. objections_of script phase before) (caused_of script before) (heard_of before) (ended_of before) (finished_of before) m.events) in
+    let open_ = is_open (delivered_causes before) (phase ∷ ended_of before) (finished_of before) in
+    let dues_are = rw (c.as_slice-2.ensures.value, lapsed, ← coming.place_is, m.time) at (c.in_ok-tell_each.ensures (filter open_ (scheduled_events script before)) cleared.are) in
+    let agenda = agenda-living (is_told steps) (delivered_causes before) (phase ∷ ended_of before) (finished_of before) (now_of before) (dues.lapsed_with phase before) (scheduled_events script before) (length before) _ _ told cleared dues_are in
+    let events = events-calls (λ phase. objections_of script phase before) open_ (now_of before) (length before) 0 (dues.lapsed_with phase before) (scheduled_events script before) (events-ended phase (λ phase. objections_of script phase before) (scheduled_events script before) (delivered_causes before) (ended_of before) (finished_of before) m.events) in
     search (rules, later)

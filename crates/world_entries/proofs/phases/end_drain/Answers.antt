@@ -1,16 +1,4 @@
-use Rattle.std.proofs.Common.{◌≡◌, ◌≤◌, Some, filter, refl, ◌∙◌, arith, rules}
-use Rattle.uvm_object.specs.declared.entries.Entry.TheVariants.{Drained}
-use Rattle.uvm_objection.specs.Nodes.{released}
-use Rattle.uvm_objection.specs.Totals.{total, settled}
-use Rattle.bench_history.specs.Sequences.{finished_of}
-use Rattle.bench_history.specs.Dues.{caused_of, heard_of, is_open}
-use Rattle.bench_history.specs.History.{now_of, ended_of}
-use Rattle.bench_history.specs.Objections.{objections_of}
-use Rattle.world_objections.specs.Phased.{nodes_in}
-use Rattle.world_agenda.proofs.Drained.{due-released, due-is-held, known-held}
-use Rattle.world_services.proofs.Opened.{drain-unended}
-use Rattle.world_services.proofs.Later.{later}
-use Rattle.world_services.proofs.Settling.{drain-changes, settling}
+use Rattle.world_entries.proofs.Common.{◌≡◌, ◌≤◌, Some, filter, refl, ◌∙◌, arith, rules, Drained, released, total, settled, finished_of, scheduled_events, delivered_causes, is_open, now_of, ended_of, objections_of, nodes_in, due-released, due-is-held, known-held, drain-unended, later, drain-changes, settling}
 use Rattle.world_entries.proofs.phases.end_drain.Goals as goal
 
 pub drained-requires-clause-known : goal.drained-requires-clause-known
@@ -57,7 +45,7 @@ returns c = λ script before coming m.
     let grown = (c.nodes_grow.ensures.1 nodes was.are_nodes).released (now_of before) c.args.node in
     let low : 0 ≤ 65535 = omega arith in
     let unended = drain-unended script before c.args.node origin c.order_keeps_all.ensures (c.drains_go_in_order.ensures script before c.args.node origin coming.next) in
-    let dues = rw (← coming.place_is) at (due.dues (filter (is_open (heard_of before) (ended_of before) (finished_of before)) (caused_of script before)) m.agenda.are) in
+    let dues = rw (← coming.place_is) at (due.dues (filter (is_open (delivered_causes before) (ended_of before) (finished_of before)) (scheduled_events script before)) m.agenda.are) in
     let drains = settling (Drained c.args.node origin) phase (Some phase) changed c.in_ok-began.began (Some c.args.node) c.drained.new.self _ 0
     c.settled_go_by_totals.ensures stay c.begun_drains_are_held.ensures m refl held.task (drain-changes script before c.args.node origin) same is c.in_ok-began.ensures.others c.in_ok-began.ensures.given low grown
     (due-released c.args.node nodes) begun over unended dues in

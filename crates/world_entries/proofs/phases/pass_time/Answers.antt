@@ -1,6 +1,4 @@
-use Rattle.std.proofs.Common.{◌≤◌, ◌^◌, refl, rules}
-use Rattle.uvm_object.specs.declared.entries.Entry.TheVariants.{Time}
-use Rattle.world_services.proofs.Later.{later}
+use Rattle.world_entries.proofs.Common.{◌≤◌, ◌^◌, refl, rules, Time, later}
 use Rattle.world_entries.proofs.phases.pass_time.Goals as goal
 
 pub returns : goal.returns

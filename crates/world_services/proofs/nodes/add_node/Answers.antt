@@ -1,5 +1,4 @@
-use Rattle.std.proofs.Common.{◌≡◌, ◌++◌, ◌∷◌, ◌∙◌, [], List, length, refl}
-use Rattle.uvm_tree.specs.Nodes.{Node, child, path_at}
+use Rattle.world_services.proofs.Common.{◌≡◌, ◌++◌, ◌∷◌, ◌∙◌, [], List, length, refl, child, path_at, Node}
 use Rattle.world_services.proofs.nodes.add_node.Goals as goal
 
 -- the newest node stands behind the others

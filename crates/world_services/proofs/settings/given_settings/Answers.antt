@@ -1,6 +1,5 @@
-use Rattle.bench_history.specs.Configuration.{given_setting}
+use Rattle.world_services.proofs.Common.{given_setting, given-more}
 use Rattle.world_services.proofs.Configured.{settings-none}
-use Rattle.world_reports.proofs.Given.{given-more}
 use Rattle.world_services.proofs.settings.given_settings.Goals as goal
 
 pub loop-setting-init : goal.loop-setting-init

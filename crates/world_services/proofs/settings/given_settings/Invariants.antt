@@ -1,6 +1,4 @@
-use Rattle.std.proofs.Common.{map, reverse, take}
-use Rattle.bench_history.specs.Configuration.{given_setting}
-use Rattle.world_services.specs.Services.{IsSettings}
+use Rattle.world_services.proofs.Common.{map, reverse, take, given_setting, IsSettings}
 use Rattle.world_services.proofs.settings.given_settings.Given as goal
 
 -- the settings so far are set

@@ -1,7 +1,5 @@
-use Rattle.std.proofs.Common.{w64, ◌∙◌}
+use Rattle.world_services.proofs.Common.{w64, ◌∙◌, to_z-of_z, precedence_of}
 use mir.Val.{SFits}
-use Rattle.std.proofs.lemmas.Int.{to_z-of_z}
-use Rattle.uvm_config.specs.Choice.{precedence_of}
 use Rattle.world_services.proofs.Configured.{settings-more}
 use Rattle.world_services.proofs.settings.set.Goals as goal
 

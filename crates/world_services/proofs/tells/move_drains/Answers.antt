@@ -1,6 +1,4 @@
-use Rattle.std.proofs.Common.{List, filter, not}
-use Rattle.std.specs.Option.{option_to_list}
-use Rattle.bench_history.specs.Owners.{Event, is_drain_of}
+use Rattle.world_services.proofs.Common.{List, filter, not, option_to_list, Event, is_drain_of}
 use Rattle.world_services.proofs.tells.move_drains.Goals as goal
 
 pub returns-in_ok-add_event-clause-dues : goal.returns-in_ok-add_event-clause-dues

@@ -1,8 +1,5 @@
-use Rattle.bench_kernel.specs.Seating.{all_held}
-use Rattle.object_seats.specs.Seats.{paths_in}
-use Rattle.std.proofs.Common.{refl}
-use Rattle.bench_kernel.specs.Kernels.{KernelValue}
-use Rattle.bench_kernel.proofs.Kept.{below}
+use Rattle.bench_kernel.proofs.Common.{all_held, paths_in, refl, KernelValue}
+use Rattle.bench_kernel.proofs.Preserved.{below}
 use Rattle.bench_kernel.proofs.Supplied.{going-where-needed, kept-declines}
 use Rattle.bench_kernel.proofs.kernels.Kernel.decline.Goals as goal
 

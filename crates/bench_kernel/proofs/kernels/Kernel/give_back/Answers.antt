@@ -1,4 +1,4 @@
-use Rattle.bench_history.specs.History.{nodes_of}
+use Rattle.bench_kernel.proofs.Common.{nodes_of}
 use Rattle.bench_kernel.proofs.Given.{first-held, given-first, given-held, gives-component, gives-sequence}
 use Rattle.bench_kernel.proofs.Sitting.{first-sequence}
 use Rattle.bench_kernel.proofs.kernels.Kernel.give_back.Goals as goal

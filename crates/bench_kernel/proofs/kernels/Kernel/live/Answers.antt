@@ -1,4 +1,4 @@
-use Rattle.std.proofs.Common.{arith}
+use Rattle.bench_kernel.proofs.Common.{arith}
 use Rattle.bench_kernel.proofs.kernels.Kernel.live.Goals as goal
 
 pub overflow_add-result : goal.overflow_add-result

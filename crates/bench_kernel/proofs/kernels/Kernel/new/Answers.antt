@@ -1,4 +1,4 @@
-use Rattle.bench_kernel.proofs.Kept.{kept-new}
+use Rattle.bench_kernel.proofs.Preserved.{kept-new}
 use Rattle.bench_kernel.proofs.kernels.Kernel.new.Goals as goal
 
 pub invariant_of-result : goal.invariant_of-result

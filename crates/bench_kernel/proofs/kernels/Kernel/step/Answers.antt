@@ -1,13 +1,6 @@
-use Rattle.std.proofs.Common.{◌≡◌, ◌∙◌, Err, ap, refl, rules, sym}
-use Rattle.std.specs.Option.{option_copied}
-use Rattle.bench_core.specs.declared.cores.Turn.TheVariants.{Ask, Moved, Need, Over}
-use Rattle.uvm_object.specs.declared.entries.Entry.TheVariants.{Heard}
-use Rattle.bench_core.specs.declared.faults.CoreFault.TheVariants.{Memory}
-use Rattle.bench_core.specs.declared.cores.Health.TheVariants.{Broken}
-use Rattle.bench_kernel.specs.Seating.{all_held}
-use Rattle.object_seats.specs.Seats.{held_in, paths_in}
-use Rattle.bench_kernel.specs.Kernels.{KernelValue}
-use Rattle.bench_kernel.proofs.Kept.{asked-held, below, kept-failed, kept-heard, kept-moved, kept-needed, kept-told, kept-unanswered, leaver-ended, leaver-held}
+use Rattle.bench_kernel.proofs.Common.{◌≡◌, ◌∙◌, Err, ap, refl, rules, sym, option_copied, Ask, Moved, Heard, Memory, Broken, all_held, held_in, paths_in, KernelValue}
+use Rattle.bench_core.specs.declared.cores.Turn.TheVariants.{Need, Over}
+use Rattle.bench_kernel.proofs.Preserved.{asked-held, below, kept-failed, kept-heard, kept-moved, kept-needed, kept-told, kept-unanswered, leaver-ended, leaver-held}
 use Rattle.bench_kernel.proofs.Seated.{nodes-asked, seated-asked, seated-later, seated-told}
 use Rattle.bench_kernel.proofs.Sitting.{ended-sits, permuted-behind}
 use Rattle.bench_kernel.proofs.Stepped.{answered-step, ask-turn, asked-log, asked-room, back-step, heard-is, leave-turn, moved-step, moved-turn, need-turn, needed-step, over-turn, refused-log, refused-step, refused-told, told-turn, unanswered-step, unheard-log}

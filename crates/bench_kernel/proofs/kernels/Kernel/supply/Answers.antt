@@ -1,9 +1,5 @@
-use Rattle.std.proofs.Common.{◌≡◌, ◌∷◌, refl, sym, rules}
-use Rattle.std.specs.List.Sorted.{IsPermutation}
-use Rattle.bench_kernel.specs.Seating.{all_held}
-use Rattle.object_seats.specs.Seats.{paths_in}
-use Rattle.bench_kernel.specs.Kernels.{AreSeated, KernelValue, wanted_in}
-use Rattle.bench_kernel.proofs.Kept.{below}
+use Rattle.bench_kernel.proofs.Common.{◌≡◌, ◌∷◌, refl, sym, rules, IsPermutation, all_held, paths_in, AreSeated, KernelValue, wanted_in}
+use Rattle.bench_kernel.proofs.Preserved.{below}
 use Rattle.bench_kernel.proofs.Sitting.{seated-held}
 use Rattle.bench_kernel.proofs.Supplied.{free-now, going-where-needed, is-supplied, kept-supplies}
 use Rattle.bench_kernel.proofs.kernels.Kernel.supply.Goals as goal

@@ -1,5 +1,4 @@
-use Rattle.std.proofs.Common.{◌∙◌, [], arith}
-use Rattle.bench_history.specs.Next.{IsLegal}
+use Rattle.bench_world.proofs.Common.{◌∙◌, [], arith, IsLegal}
 use Rattle.bench_world.proofs.Going.{sound-again}
 use Rattle.bench_world.proofs.worlds.World.before.Goals as goal
 

@@ -1,14 +1,5 @@
-use Rattle.std.proofs.Common.{inr, refl, ap, rules, subst, ◌∙◌, sym}
-use Rattle.uvm_object.specs.declared.entries.Entry.TheVariants.{Did}
-use Rattle.uvm_object.specs.declared.entries.Outcome.TheVariants.{Refused}
-use Rattle.uvm_object.specs.declared.fatals.Fatal.TheVariants.{NoObject}
-use Rattle.bench_history.specs.History.{speaker_of}
-use Rattle.bench_history.specs.Next.{IsAct, IsNext}
+use Rattle.bench_world.proofs.Common.{inr, refl, ap, rules, subst, ◌∙◌, sym, Did, Refused, NoObject, performer_of, IsAct, IsNext, refused-taken-in, ok-not-err, wanted, answer-open, AnswerCursor}
 use Rattle.bench_world.proofs.Going.{acted-on, short}
-use Rattle.world_services.proofs.Later.{refused-taken-in}
-use Rattle.world_services.proofs.Acting.{ok-not-err, wanted}
-use Rattle.world_services.proofs.Answered.{answer-open}
-use Rattle.world_services.specs.declared.services.LastAnswer.{LastAnswer}
 use Rattle.bench_world.proofs.worlds.World.declined.Goals as goal
 
 pub refused_by-requires-clause-can : goal.refused_by-requires-clause-can
@@ -34,8 +25,8 @@ enter-requires-clause-open c =
     let is = sym c.take_parts.ensures.value ∙ c.in-Some.is in
     let m = c.self.invariant.1.services_match (c.self.invariant.1.waits c.in-Some.parts is) in
     let ready = c.self.invariant.1.ready c.in-Some.parts is in
-    let kept = refused-taken-in {place = 0} c.in-Some.parts.deed NoObject c.in-Ok.ensures.services in
-    rw kept.same_answer (answer-open c.in-Some.parts.deed ready.left m.answer)
+    let kept = refused-taken-in {place = 0} c.in-Some.parts.stored_act NoObject c.in-Ok.ensures.services in
+    rw kept.same_answer (answer-open c.in-Some.parts.stored_act ready.left m.answer)
 
 pub unreachable-requires-in_default-enter : goal.unreachable-requires-in_default-enter
 unreachable-requires-in_default-enter c =
@@ -49,10 +40,10 @@ returns c =
     let m = c.self.invariant.1.services_match sound in
     let ready = c.self.invariant.1.ready c.in-Some.parts is in
     let before = c.self.inside.log.entries in
-    let act = c.in-Some.parts.deed in
+    let act = c.in-Some.parts.stored_act in
     let w = wanted c.needs_are_wanted.ensures c.self.inside.script before act (rw ready.needed refl) ready.left in
     let kept = refused-taken-in {place = 0} act NoObject c.in-Ok.ensures.services in
-    let entries = rw (c.in-Ok.ensures.outcome, kept.same_answer, m.answer.speaker) at c.in-Ok-enter.ensures.ok in
+    let entries = rw (c.in-Ok.ensures.outcome, kept.same_answer, m.answer.performer) at c.in-Ok-enter.ensures.ok in
     rw (← c.self.view_is, w.next, entries, c.take_parts.ensures.after, sound) refl
 
 pub invariant_of-self : goal.invariant_of-self
@@ -61,9 +52,9 @@ invariant_of-self c =
     let sound = c.self.invariant.1.waits c.in-Some.parts is in
     let ready = c.self.invariant.1.ready c.in-Some.parts is in
     let before = c.self.inside.log.entries in
-    let act = c.in-Some.parts.deed in
+    let act = c.in-Some.parts.stored_act in
     let w = wanted c.needs_are_wanted.ensures c.self.inside.script before act (rw ready.needed refl) ready.left in
-    let next : IsNext c.self.inside.script before (Did (speaker_of before) (Refused NoObject) act) = rw w.next (inr refl) in
+    let next : IsNext c.self.inside.script before (Did (performer_of before) (Refused NoObject) act) = rw w.next (inr refl) in
     let entries = rw c.in-Ok.ensures.outcome at c.in-Ok-enter.ensures.ok in
     let is_act = subst IsAct (sym w.next) tt in
-    rw c.take_parts.ensures.after (acted-on (Refused NoObject) act c.self.invariant sound ready.room w.settled ready.left next is_act c.acts_are_in_phase.ensures c.performers_are_there.ensures c.drivers_are_there.ensures (refused-taken-in act NoObject c.in-Ok.ensures.services) entries c.in-Ok-enter.ensures.limit c.clear.ensures.items (ap (λ (a : LastAnswer). record c.refused_by.new.services { answer = a }) c.in-Ok-enter.ensures.answer))
+    rw c.take_parts.ensures.after (acted-on (Refused NoObject) act c.self.invariant sound ready.room w.settled ready.left next is_act c.acts_are_in_phase.ensures c.performers_are_there.ensures c.drivers_are_there.ensures (refused-taken-in act NoObject c.in-Ok.ensures.services) entries c.in-Ok-enter.ensures.limit c.clear.ensures.items (ap (λ (a : AnswerCursor). record c.refused_by.new.services { answer = a }) c.in-Ok-enter.ensures.answer))

@@ -1,7 +1,4 @@
-use Rattle.std.proofs.Common.{refl, is_some}
-use Rattle.uvm_object.specs.declared.entries.Entry.TheVariants.{Granted}
-use Rattle.uvm_object.specs.declared.entries.Grant.{Grant}
-use Rattle.bench_history.specs.Cases.{chosen_at}
+use Rattle.bench_world.proofs.Common.{refl, is_some, Granted, Grant, chosen_at}
 use Rattle.bench_history.specs.Cases as cases
 use Rattle.bench_world.proofs.Going.{due-here, entered}
 use Rattle.bench_world.proofs.worlds.World.granted.Goals as goal

@@ -1,6 +1,4 @@
-use Rattle.std.proofs.Common.{refl, sym}
-use Rattle.uvm_object.specs.declared.entries.Entry.TheVariants.{Heard}
-use Rattle.bench_history.specs.Cases.{Answer}
+use Rattle.bench_world.proofs.Common.{refl, sym, Heard, Answer}
 use Rattle.bench_world.proofs.Going.{due-here, entered}
 use Rattle.bench_world.proofs.worlds.World.heard.Goals as goal
 

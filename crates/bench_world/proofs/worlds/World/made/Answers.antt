@@ -1,13 +1,6 @@
-use Rattle.std.proofs.Common.{Some, inl, refl, ◌∙◌, ap, sym, subst}
-use Rattle.uvm_object.specs.declared.entries.Entry.TheVariants.{Did}
-use Rattle.bench_history.specs.History.{speaker_of}
-use Rattle.bench_history.specs.Next.{IsAct, IsNext}
-use Rattle.world_services.specs.Makings.{outcome_made}
-use Rattle.world_services.proofs.Answered.{answer-open}
+use Rattle.bench_world.proofs.Common.{Some, inl, refl, ◌∙◌, ap, sym, subst, Did, performer_of, IsAct, IsNext, outcome_made, answer-open, ok-not-err, wanted, wanted-need, AnswerCursor}
 use Rattle.bench_world.proofs.Going.{acted-on}
 use Rattle.bench_world.proofs.Makeable.{made-leaves, makeable}
-use Rattle.world_services.proofs.Acting.{ok-not-err, wanted, wanted-need}
-use Rattle.world_services.specs.declared.services.LastAnswer.{LastAnswer}
 use Rattle.bench_world.proofs.worlds.World.made.Goals as goal
 
 pub make-who-requires : goal.make-who-requires
@@ -17,7 +10,7 @@ make-who-requires c =
     let m = c.self.invariant.1.services_match sound in
     let ready = c.self.invariant.1.ready c.in-Some.parts is in
     let before = c.self.inside.log.entries in
-    let act = c.in-Some.parts.deed in
+    let act = c.in-Some.parts.stored_act in
     let w = wanted c.needs_are_wanted.ensures c.self.inside.script before act (rw ready.needed refl) ready.left in
     let same = wanted-need w ready.needed in
     let performs = c.performers_are_there.ensures c.self.inside.script before act c.self.invariant.1.legal.each (subst IsAct (sym w.next) tt) ready.left in
@@ -33,7 +26,7 @@ enter-requires-clause-open c =
     let is = sym c.take_parts.ensures.value ∙ c.in-Some.is in
     let m = c.self.invariant.1.services_match (c.self.invariant.1.waits c.in-Some.parts is) in
     let ready = c.self.invariant.1.ready c.in-Some.parts is in
-    rw c.make-who.ensures.kept.same_answer (answer-open c.in-Some.parts.deed ready.left m.answer)
+    rw c.make-who.ensures.kept.same_answer (answer-open c.in-Some.parts.stored_act ready.left m.answer)
 
 pub unreachable-requires-in_default-enter : goal.unreachable-requires-in_default-enter
 unreachable-requires-in_default-enter c =
@@ -48,18 +41,18 @@ invariant_of-self c =
     let ready = c.self.invariant.1.ready c.in-Some.parts is in
     let before = c.self.inside.log.entries in
     let services = c.self.inside.services in
-    let act = c.in-Some.parts.deed in
+    let act = c.in-Some.parts.stored_act in
     let w = wanted c.needs_are_wanted.ensures c.self.inside.script before act (rw ready.needed refl) ready.left in
     let same = wanted-need w ready.needed in
     let is_act = subst IsAct (sym w.next) tt in
     let performs = c.performers_are_there.ensures c.self.inside.script before act c.self.invariant.1.legal.each is_act ready.left in
     let k = makeable c.in-Some.parts m ready w.need w.made same performs w.makes in
     let outcome = outcome_made services c.in-Some.parts.need.type_name c.in-Some.parts.home in
-    let next : IsNext c.self.inside.script before (Did (speaker_of before) outcome act) = rw (w.next, ← k.made_is) (inl refl) in
+    let next : IsNext c.self.inside.script before (Did (performer_of before) outcome act) = rw (w.next, ← k.made_is) (inl refl) in
     let kept = rw (c.get.ensures, c.act.ensures, c.next_place-place.ensures) at c.make-who.ensures.kept in
     let entries = rw c.make-who.ensures.outcome at c.in-Ok.ensures.ok in
-    let leaves = c.clear.ensures.items ∙ sym (made-leaves services c.in-Some.parts.need.type_name c.in-Some.parts.home services.answer.speaker) in
-    rw c.take_parts.ensures.after (acted-on outcome act c.self.invariant sound ready.room w.settled ready.left next is_act c.acts_are_in_phase.ensures c.performers_are_there.ensures c.drivers_are_there.ensures kept entries c.in-Ok.ensures.limit leaves (ap (λ (a : LastAnswer). record c.make-who.new.services { answer = a }) c.in-Ok.ensures.answer))
+    let leaves = c.clear.ensures.items ∙ sym (made-leaves services c.in-Some.parts.need.type_name c.in-Some.parts.home services.answer.performer) in
+    rw c.take_parts.ensures.after (acted-on outcome act c.self.invariant sound ready.room w.settled ready.left next is_act c.acts_are_in_phase.ensures c.performers_are_there.ensures c.drivers_are_there.ensures kept entries c.in-Ok.ensures.limit leaves (ap (λ (a : AnswerCursor). record c.make-who.new.services { answer = a }) c.in-Ok.ensures.answer))
 
 pub returns-clause-who : goal.returns-clause-who
 returns-clause-who c =
@@ -68,7 +61,7 @@ returns-clause-who c =
     let m = c.self.invariant.1.services_match sound in
     let ready = c.self.invariant.1.ready c.in-Some.parts is in
     let before = c.self.inside.log.entries in
-    let act = c.in-Some.parts.deed in
+    let act = c.in-Some.parts.stored_act in
     let w = wanted c.needs_are_wanted.ensures c.self.inside.script before act (rw ready.needed refl) ready.left in
     let same = wanted-need w ready.needed in
     let performs = c.performers_are_there.ensures c.self.inside.script before act c.self.invariant.1.legal.each (subst IsAct (sym w.next) tt) ready.left in
@@ -82,10 +75,10 @@ returns-clause-entry c =
     let m = c.self.invariant.1.services_match sound in
     let ready = c.self.invariant.1.ready c.in-Some.parts is in
     let before = c.self.inside.log.entries in
-    let act = c.in-Some.parts.deed in
+    let act = c.in-Some.parts.stored_act in
     let w = wanted c.needs_are_wanted.ensures c.self.inside.script before act (rw ready.needed refl) ready.left in
     let same = wanted-need w ready.needed in
     let performs = c.performers_are_there.ensures c.self.inside.script before act c.self.invariant.1.legal.each (subst IsAct (sym w.next) tt) ready.left in
     let k = makeable c.in-Some.parts m ready w.need w.made same performs w.makes in
-    let entries = rw (c.make-who.ensures.outcome, c.make-who.ensures.kept.same_answer, m.answer.speaker) at c.in-Ok.ensures.ok in
+    let entries = rw (c.make-who.ensures.outcome, c.make-who.ensures.kept.same_answer, m.answer.performer) at c.in-Ok.ensures.ok in
     rw (← c.self.view_is, w.next, k.made_is, entries, c.take_parts.ensures.after, sound) refl

@@ -1,6 +1,4 @@
-use Rattle.bench_history.specs.Wires.{wiring_of}
-use Rattle.world_wiring.specs.Connectings.{IsConnecting}
-use Rattle.world_wiring.proofs.Connected.{ends-ordered}
+use Rattle.bench_world.proofs.Common.{wiring_of, IsConnecting, ends-ordered}
 use Rattle.bench_world.proofs.Closed.{world-closed}
 use Rattle.bench_world.proofs.worlds.World.next_unsound.Goals as goal
 

@@ -1,6 +1,4 @@
-use Rattle.std.proofs.Common.{refl}
-use Rattle.uvm_object.specs.declared.entries.Entry.TheVariants.{Passed}
-use Rattle.bench_history.specs.Cases.{Exactly}
+use Rattle.bench_world.proofs.Common.{refl, Passed, Exactly}
 use Rattle.bench_world.proofs.Going.{entered}
 use Rattle.bench_world.proofs.worlds.World.passed.Goals as goal
 

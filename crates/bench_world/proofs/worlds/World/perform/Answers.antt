@@ -1,13 +1,6 @@
-use Rattle.std.proofs.Common.{◌≡◌, false, true, None, length, refl, sym, ◌∙◌, rules}
-use Rattle.uvm_tlm.specs.Wirings.{end_at, is_closed, late_fault}
-use Rattle.bench_history.specs.History.{in_task}
+use Rattle.bench_world.proofs.Common.{◌≡◌, false, true, None, length, refl, sym, ◌∙◌, rules, end_at, is_closed, late_fault, in_task, answer-open, known-there, scene-of, each-few, each-numbered, building-open, connectable-open, unused}
 use Rattle.bench_world.proofs.Going.{act-next, goes-still, performed, short}
-use Rattle.world_services.proofs.Answered.{answer-open}
-use Rattle.world_services.proofs.Known.{known-there}
-use Rattle.world_services.proofs.Later.{scene-of}
-use Rattle.world_services.proofs.Settling.{each-few, each-numbered}
 use Rattle.bench_world.proofs.Waits.{acted-enters, acted-needs, waits}
-use Rattle.world_wiring.proofs.Connected.{building-open, connectable-open, unused}
 use Rattle.bench_world.proofs.worlds.World.perform.Goals as goal
 
 pub carry_out-requires-clause-can : goal.carry_out-requires-clause-can
@@ -21,12 +14,12 @@ carry_out-requires-clause-can c =
     let before = c.self.inside.log.entries in
     let each = c.self.invariant.1.legal.each in
     let low = short c.self.inside.script in
-    let phases = c.acts_are_in_phase.ensures c.self.inside.script before c.args.deed each (act-next c.self.inside.script before c.args.deed r.next) r.left in
+    let phases = c.acts_are_in_phase.ensures c.self.inside.script before c.args.stored_act each (act-next c.self.inside.script before c.args.stored_act r.next) r.left in
     let closed : in_task c.self.inside.services.answer.phase ≡ true → is_closed wiring ≡ true = λ task.
     let acts = rw m.answer.phase at task in
     m.closed_past.is (c.tasks_follow_connect.ensures c.self.inside.script before each (goes-still before phases.going acts) acts) in
     record {
-      speaks = rw (m.tree, m.answer.speaker) m.speaks;
+      speaks = rw (m.tree, m.answer.performer) m.speaks;
       numbered = rw m.tree (each-numbered m.objections);
       report = search (rules, low);
       few = λ phase. let raised = each-few m.objections phase in search (rules, raised, low);
@@ -41,19 +34,19 @@ carry_out-requires-clause-can c =
 pub carry_out-requires-clause-open : goal.carry_out-requires-clause-open
 carry_out-requires-clause-open c =
     let r = rw (← c.self.view_is) at c.requires in
-    answer-open c.args.deed r.left (c.self.invariant.1.services_match r.sound).answer
+    answer-open c.args.stored_act r.left (c.self.invariant.1.services_match r.sound).answer
 
 pub invariant_of-self-in-Entered : goal.invariant_of-self-in-Entered
 invariant_of-self-in-Entered c =
     let r = rw (← c.self.view_is) at c.requires in
     let e = rw c.in-Entered.is at c.in_ok-leaving.ensures.ok in
-    performed e.outcome c.args.deed c.self.invariant r.sound r.room r.settled r.left r.next c.acts_are_in_phase.ensures c.performers_are_there.ensures c.drivers_are_there.ensures e.performed e.entries c.in_ok-leaving.ensures.limit e.leaves e.done
+    performed e.outcome c.args.stored_act c.self.invariant r.sound r.room r.settled r.left r.next c.acts_are_in_phase.ensures c.performers_are_there.ensures c.drivers_are_there.ensures e.performed e.entries c.in_ok-leaving.ensures.limit e.leaves e.done
 
 pub invariant_of-self-in-Waits : goal.invariant_of-self-in-Waits
 invariant_of-self-in-Waits c =
     let r = rw (← c.self.view_is) at c.requires in
     let w = rw c.in-Waits.is at c.in_ok-leaving.ensures.ok in
-    waits c.args.deed c.in-Waits.waiting c.self.invariant r.sound r.room r.settled r.left r.next c.acts_are_in_phase.ensures c.performers_are_there.ensures c.drivers_are_there.ensures w c.in_ok-leaving.ensures.limit
+    waits c.args.stored_act c.in-Waits.pending c.self.invariant r.sound r.room r.settled r.left r.next c.acts_are_in_phase.ensures c.performers_are_there.ensures c.drivers_are_there.ensures w c.in_ok-leaving.ensures.limit
 
 pub returns-in-Entered-clause-ok : goal.returns-in-Entered-clause-ok
 returns-in-Entered-clause-ok c =
@@ -61,8 +54,8 @@ returns-in-Entered-clause-ok c =
     let m = c.self.invariant.1.services_match r.sound in
     let before = c.self.inside.log.entries in
     let e = rw c.in-Entered.is at c.in_ok-leaving.ensures.ok in
-    let scene = scene-of c.args.deed m c.self.invariant.1.legal.each r.settled r.left c.acts_are_in_phase.ensures c.performers_are_there.ensures c.drivers_are_there.ensures (act-next c.self.inside.script before c.args.deed r.next) in
-    rw (← c.self.view_is) (acted-enters c.self.inside.script c.self.inside.sound _ _ e r.next m.answer.speaker scene r.sound)
+    let scene = scene-of c.args.stored_act m c.self.invariant.1.legal.each r.settled r.left c.acts_are_in_phase.ensures c.performers_are_there.ensures c.drivers_are_there.ensures (act-next c.self.inside.script before c.args.stored_act r.next) in
+    rw (← c.self.view_is) (acted-enters c.self.inside.script c.self.inside.sound _ _ e r.next m.answer.performer scene r.sound)
 
 pub returns-in-Waits-clause-ok : goal.returns-in-Waits-clause-ok
 returns-in-Waits-clause-ok c =
@@ -70,5 +63,5 @@ returns-in-Waits-clause-ok c =
     let m = c.self.invariant.1.services_match r.sound in
     let before = c.self.inside.log.entries in
     let w = rw c.in-Waits.is at c.in_ok-leaving.ensures.ok in
-    let scene = scene-of c.args.deed m c.self.invariant.1.legal.each r.settled r.left c.acts_are_in_phase.ensures c.performers_are_there.ensures c.drivers_are_there.ensures (act-next c.self.inside.script before c.args.deed r.next) in
-    rw (← c.self.view_is) (acted-needs c.self.inside.script before _ c.self.inside.sound _ r.next m.answer.speaker (w.need.comes c.self.inside.script before scene) w.entries r.sound refl)
+    let scene = scene-of c.args.stored_act m c.self.invariant.1.legal.each r.settled r.left c.acts_are_in_phase.ensures c.performers_are_there.ensures c.drivers_are_there.ensures (act-next c.self.inside.script before c.args.stored_act r.next) in
+    rw (← c.self.view_is) (acted-needs c.self.inside.script before _ c.self.inside.sound _ r.next m.answer.performer (w.need.comes c.self.inside.script before scene) w.entries r.sound refl)

@@ -1,4 +1,4 @@
-use Rattle.std.proofs.Common.{rules}
+use Rattle.bus_objects.proofs.Common.{rules}
 use Rattle.bus_objects.proofs.Shown.{scores_show_themselves}
 use Rattle.bus_objects.proofs.bus_scoreboard.BusScoreboardUvmObject.hear.Goals as goal
 

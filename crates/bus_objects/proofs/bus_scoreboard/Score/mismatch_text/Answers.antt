@@ -1,12 +1,5 @@
 -- The bytes are the text of the mismatch, at the words as they are and not cast.
-use Rattle.std.proofs.Common.{◌≡◌, ◌++◌, w64, FitsSigned, to_z, of_z, rules, ◌∙◌}
-use Rattle.std.specs.Prelude.{ℤ, codes}
-use Rattle.std.specs.Fmt.{signed_decimal}
-use Rattle.std.proofs.lemmas.Int.{to_z-of_z}
-use Rattle.uvm_tlm.specs.declared.items.Item.{Item}
-use Rattle.bus_objects.specs.Items.{address_of, data_of}
-use Rattle.bus_objects.specs.Words.{Words, word_at}
-use Rattle.bus_objects.specs.BusScoreboard.{mismatch_text}
+use Rattle.bus_objects.proofs.Common.{◌≡◌, ◌++◌, w64, FitsSigned, to_z, of_z, rules, ◌∙◌, ℤ, codes, signed_decimal, to_z-of_z, Item, address_of, data_of, Words, word_at, mismatch_text}
 use Rattle.bus_objects.proofs.Printed.{mismatch_text-fits}
 use Rattle.bus_objects.proofs.bus_scoreboard.Score.mismatch_text.Goals as goal
 

@@ -1,5 +1,4 @@
-use Rattle.std.proofs.Common.{◌<◌, ◌^◌, rules, ◌∙◌}
-use Rattle.bus_objects.specs.BusScoreboard.{score_text}
+use Rattle.bus_objects.proofs.Common.{◌<◌, ◌^◌, rules, ◌∙◌, score_text}
 use Rattle.bus_objects.proofs.Printed.{score_text-fits}
 use Rattle.bus_objects.proofs.bus_scoreboard.Score.text.Goals as goal
 

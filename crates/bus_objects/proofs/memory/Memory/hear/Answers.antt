@@ -1,5 +1,5 @@
 use Rattle.bus_objects.proofs.memory.Memory.hear.Goals as goal
-use Rattle.std.proofs.Common.{rules}
+use Rattle.bus_objects.proofs.Common.{rules}
 use Rattle.bus_objects.proofs.Shown.{memories_show_themselves}
 
 pub returns-clause-ok : goal.returns-clause-ok

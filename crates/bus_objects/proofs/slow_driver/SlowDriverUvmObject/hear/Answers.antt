@@ -1,4 +1,4 @@
-use Rattle.std.proofs.Common.{rules}
+use Rattle.bus_objects.proofs.Common.{rules}
 use Rattle.bus_objects.proofs.Shown.{items_show_themselves}
 use Rattle.bus_objects.proofs.slow_driver.SlowDriverUvmObject.hear.Goals as goal
 

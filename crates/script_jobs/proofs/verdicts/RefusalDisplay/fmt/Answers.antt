@@ -1,5 +1,4 @@
-use Rattle.std.proofs.Common.{ℕ, List, ◌++◌, codes, subst}
-use Rattle.std.specs.Fmt.{HasWritten}
+use Rattle.script_jobs.proofs.Common.{ℕ, List, ◌++◌, subst, HasWritten, codes}
 use Rattle.script_jobs.proofs.verdicts.RefusalDisplay.fmt.Goals as goal
 
 pub returns-in-UnknownTest-clause-writes : goal.returns-in-UnknownTest-clause-writes

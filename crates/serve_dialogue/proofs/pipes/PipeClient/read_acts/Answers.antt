@@ -1,5 +1,4 @@
-use Rattle.client_answers.specs.Answers.{answer_text}
-use Rattle.std.proofs.Common.{refl, sym}
+use Rattle.serve_dialogue.proofs.Common.{answer_text, refl, sym}
 use Rattle.serve_dialogue.proofs.PipeTalk.{acts_unread, answer_read}
 use Rattle.serve_dialogue.proofs.pipes.PipeClient.read_acts.Goals as goal
 

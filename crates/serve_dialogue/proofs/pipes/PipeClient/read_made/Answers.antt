@@ -1,4 +1,4 @@
-use Rattle.std.proofs.Common.{refl, sym}
+use Rattle.serve_dialogue.proofs.Common.{refl, sym}
 use Rattle.serve_dialogue.proofs.PipeTalk.{made_unread}
 use Rattle.serve_dialogue.proofs.pipes.PipeClient.read_made.Goals as goal
 

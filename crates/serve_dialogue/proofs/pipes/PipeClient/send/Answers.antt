@@ -1,4 +1,4 @@
-use Rattle.std.proofs.Common.{refl, rules, sym}
+use Rattle.serve_dialogue.proofs.Common.{refl, rules, sym}
 use Rattle.serve_dialogue.proofs.PipeTalk.{text_said}
 use Rattle.serve_dialogue.proofs.pipes.PipeClient.send.Goals as goal
 

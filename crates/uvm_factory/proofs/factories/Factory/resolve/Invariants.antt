@@ -1,5 +1,5 @@
 use Rattle.std.proofs.Common.{◌≡◌, length}
-use Rattle.uvm_factory.specs.Kept.{next_at, types_of}
+use Rattle.uvm_factory.specs.Representation.{next_at, types_of}
 use Rattle.uvm_factory.specs.Steps.{made}
 use Rattle.uvm_factory.proofs.factories.Factory.resolve.Given as goal
 

@@ -1,4 +1,4 @@
-use Rattle.std.proofs.Common.{sym}
+use Rattle.uvm_glob.proofs.Common.{sym}
 use Rattle.uvm_glob.proofs.PathTexts.{refusal-glob}
 use Rattle.uvm_glob.proofs.Bytes.{glob_bytes}
 use Rattle.uvm_glob.proofs.globs.Glob.new.Goals as goal

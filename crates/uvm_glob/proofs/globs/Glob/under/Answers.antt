@@ -1,6 +1,4 @@
-use Rattle.std.proofs.Common.{◌≡◌, true}
-use Rattle.std.specs.List.{list_all}
-use Rattle.uvm_glob.specs.Globs.{is_glob_byte}
+use Rattle.uvm_glob.proofs.Common.{◌≡◌, true, list_all, is_glob_byte}
 use Rattle.uvm_glob.proofs.Bytes.{dotted_bytes}
 use Rattle.uvm_glob.proofs.globs.Glob.under.Goals as goal
 

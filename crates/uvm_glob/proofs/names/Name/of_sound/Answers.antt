@@ -1,6 +1,4 @@
-use Rattle.std.proofs.Common.{◌≡◌, ◌-◌, ◌++◌, ◌≤◌, List, ℕ, length, replicate, refl, arith}
-use Rattle.std.proofs.lemmas.List.{take_at, drop_at, length-append, length-replicate}
-use Rattle.uvm_glob.specs.Limits.{most_name_bytes}
+use Rattle.uvm_glob.proofs.Common.{◌≡◌, ◌-◌, ◌++◌, ◌≤◌, List, ℕ, length, replicate, refl, arith, take_at, drop_at, length-append, length-replicate, most_name_bytes}
 use Rattle.uvm_glob.proofs.names.Name.of_sound.Goals as goal
 
 -- the bytes and their zeros fill the array

@@ -1,4 +1,4 @@
-use Rattle.std.proofs.Common.{◌∙◌, sym, arith}
+use Rattle.uvm_glob.proofs.Common.{◌∙◌, sym, arith}
 use Rattle.uvm_glob.proofs.PathTexts.{text-short}
 use Rattle.uvm_glob.proofs.ChildTexts.{name-short, child-fault}
 use Rattle.uvm_glob.proofs.paths.Path.child_fault.Goals as goal

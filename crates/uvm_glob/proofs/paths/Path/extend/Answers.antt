@@ -1,7 +1,4 @@
-use Rattle.std.proofs.Common.{arith, ◌≤◌, length}
-use Rattle.std.proofs.lemmas.Result.{err_from_is_err_and}
-use Rattle.uvm_glob.specs.Limits.{most_names}
-use Rattle.uvm_glob.specs.Paths.{names_of}
+use Rattle.uvm_glob.proofs.Common.{arith, ◌≤◌, length, err_from_is_err_and, most_names, names_of}
 use Rattle.uvm_glob.proofs.PathTexts.{names-few, text-short, names_of-dotted, fault-refused, fault-none}
 use Rattle.uvm_glob.proofs.paths.Path.extend.Goals as goal
 

@@ -1,4 +1,4 @@
-use Rattle.std.proofs.lemmas.Result.{err_from_is_err_and}
+use Rattle.uvm_glob.proofs.Common.{err_from_is_err_and}
 use Rattle.uvm_glob.proofs.PathTexts.{text-short, names_of-dotted, fault-refused, fault-none}
 use Rattle.uvm_glob.proofs.paths.Path.extended.Goals as goal
 

@@ -1,4 +1,4 @@
-use Rattle.std.proofs.Common.{sym}
+use Rattle.uvm_glob.proofs.Common.{sym}
 use Rattle.uvm_glob.proofs.PathTexts.{names_of-parsed, refusal-path}
 use Rattle.uvm_glob.proofs.paths.Path.parse.Goals as goal
 

@@ -1,5 +1,4 @@
-use Rattle.std.proofs.Common.{◌∙◌, sym, ap}
-use Rattle.uvm_glob.specs.Paths.{path_text}
+use Rattle.uvm_glob.proofs.Common.{◌∙◌, sym, ap, path_text}
 use Rattle.uvm_glob.proofs.PathTexts.{path_text-names_of}
 use Rattle.uvm_glob.proofs.Bytes.{path_bytes}
 use Rattle.uvm_glob.proofs.paths.Path.text.Goals as goal

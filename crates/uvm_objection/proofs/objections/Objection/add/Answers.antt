@@ -1,6 +1,4 @@
-use Rattle.std.proofs.Common.{◌≡◌, ◌∙◌, ◌∷◌, ◌++◌, [], ℕ, Some, cond, length, nat_eq, ap, refl, true, arith}
-use Rattle.std.specs.HashMap.{get}
-use Rattle.uvm_objection.specs.Nodes.{ObjectionValue, is_known}
+use Rattle.uvm_objection.proofs.Common.{◌≡◌, ◌∙◌, ◌∷◌, ◌++◌, [], ℕ, Some, cond, length, nat_eq, ap, refl, true, arith, get, ObjectionValue, is_known}
 use Rattle.uvm_objection.proofs.Adding.{added}
 use Rattle.uvm_objection.proofs.objections.Objection.add.Goals as goal
 

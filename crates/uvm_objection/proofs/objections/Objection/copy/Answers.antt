@@ -1,9 +1,4 @@
-use Rattle.std.proofs.Common.{◌∙◌, ◌∷◌, List, nat_eq, refl, ap, map}
-use Rattle.std.specs.Map.{lookup}
-use Rattle.std.proofs.lemmas.Map.Entries.{entries_from_clone}
-use Rattle.uvm_objection.specs.declared.nodes.Entry.{Entry}
-use Rattle.uvm_objection.specs.Nodes.{ObjectionValue}
-use Rattle.uvm_objection.specs.Kept.{node_of}
+use Rattle.uvm_objection.proofs.Common.{◌∙◌, ◌∷◌, List, nat_eq, refl, ap, map, lookup, entries_from_clone, Entry, ObjectionValue, node_of}
 use Rattle.uvm_objection.proofs.Adding.{roomier}
 use Rattle.uvm_objection.proofs.objections.Objection.copy.Goals as goal
 

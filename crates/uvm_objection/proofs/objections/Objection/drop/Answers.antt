@@ -1,4 +1,4 @@
-use Rattle.std.proofs.Common.{◌∙◌}
+use Rattle.uvm_objection.proofs.Common.{◌∙◌}
 use Rattle.uvm_objection.proofs.Objecting.{none_dropped}
 use Rattle.uvm_objection.proofs.objections.Objection.drop.Goals as goal
 

@@ -1,6 +1,4 @@
-use Rattle.std.proofs.Common.{◌≡◌, ◌∙◌, sym, ap, subst, true, arith}
-use Rattle.uvm_objection.specs.Nodes.{is_known, ObjectionValue}
-use Rattle.uvm_objection.specs.Laws.{AreNodes}
+use Rattle.uvm_objection.proofs.Common.{◌≡◌, ◌∙◌, sym, ap, subst, true, arith, is_known, ObjectionValue, AreNodes}
 use Rattle.uvm_objection.proofs.Objecting.{entries_of, are_nodes}
 use Rattle.uvm_objection.proofs.Places.{place_within}
 use Rattle.uvm_objection.proofs.Finding.{found_node, found_kept, found_at, found_top}

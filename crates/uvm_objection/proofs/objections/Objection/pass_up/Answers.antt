@@ -1,9 +1,4 @@
-use Rattle.std.proofs.Common.{◌≡◌, ◌∷◌, map, refl, sym, subst}
-use Rattle.std.specs.Option.{option_to_list}
-use Rattle.uvm_objection.specs.Nodes.{ObjectionValue, held_of}
-use Rattle.uvm_objection.specs.Totals.{total, drains_begun, drains_ended}
-use Rattle.uvm_objection.specs.Changes.{IsWithin, TellsOf}
-use Rattle.uvm_objection.specs.Kept.{node_of}
+use Rattle.uvm_objection.proofs.Common.{◌≡◌, ◌∷◌, map, refl, sym, subst, option_to_list, ObjectionValue, held_of, total, drains_begun, drains_ended, IsWithin, TellsOf, node_of}
 use Rattle.uvm_objection.proofs.Objecting.{can_pass, kept_after, nodes_after, begun_after, ended_after, told_after, steady_after}
 use Rattle.uvm_objection.proofs.objections.Objection.pass_up.Goals as goal
 

@@ -1,4 +1,4 @@
-use Rattle.std.proofs.Common.{refl}
+use Rattle.uvm_objection.proofs.Common.{refl}
 use Rattle.uvm_objection.proofs.Adding.{roomier}
 use Rattle.uvm_objection.proofs.objections.Objection.reserve.Goals as goal
 

@@ -1,8 +1,4 @@
-use Rattle.std.proofs.Common.{◌≡◌, ◌<◌, ℕ, suc, nat_eq, Option, ◌∷◌, refl, sym, subst}
-use Rattle.std.specs.HashMap.{get}
-use Rattle.std.specs.Option.{option_and_then, option_map_or}
-use Rattle.uvm_objection.specs.declared.walks.Walk.{Walk}
-use Rattle.uvm_objection.specs.Walks.{start_of}
+use Rattle.uvm_objection.proofs.Common.{◌≡◌, ◌<◌, ℕ, suc, nat_eq, Option, ◌∷◌, refl, sym, subst, get, option_and_then, option_map_or, Walk, start_of}
 use Rattle.uvm_objection.proofs.Trees.{distinct_of}
 use Rattle.uvm_objection.proofs.Passing.{Comes, starts, can_next, comes_next, lower, next_of, shorter}
 use Rattle.uvm_objection.proofs.walks.Walk.over.Goals as goal

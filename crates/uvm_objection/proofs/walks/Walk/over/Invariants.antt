@@ -1,5 +1,4 @@
-use Rattle.std.proofs.Common.{◌≡◌, suc, vec_capacity, vec_len}
-use Rattle.std.specs.Option.{option_map_or}
+use Rattle.uvm_objection.proofs.Common.{◌≡◌, suc, vec_capacity, vec_len, option_map_or}
 use Rattle.uvm_objection.proofs.Passing.{Comes}
 use Rattle.uvm_objection.proofs.walks.Walk.over.Given as goal
 

@@ -1,5 +1,4 @@
-use Rattle.std.proofs.Common.{◌≡◌, true, None, rules}
-use Rattle.uvm_phase.specs.Owners.{owners_of}
+use Rattle.uvm_phase.proofs.Common.{◌≡◌, true, None, rules, owners_of}
 use Rattle.uvm_phase.proofs.Owning.{counted-left, nothing-due}
 use Rattle.uvm_phase.proofs.Places.{left-in-order}
 use Rattle.uvm_phase.proofs.agendas.Agenda.cancel.Goals as goal

@@ -1,5 +1,4 @@
-use Rattle.std.proofs.Common.{sym, ◌∙◌, ap}
-use Rattle.std.proofs.lemmas.Bool.{false≢true}
+use Rattle.uvm_phase.proofs.Common.{sym, ◌∙◌, ap, false≢true}
 use Rattle.uvm_phase.proofs.Places.{left-in-order}
 use Rattle.uvm_phase.proofs.agendas.Agenda.clear.Goals as goal
 

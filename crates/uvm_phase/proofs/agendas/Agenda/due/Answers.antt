@@ -1,7 +1,4 @@
-use Rattle.std.proofs.Common.{◌≡◌, ◌<◌, ◌∙◌, ◌^◌, ◌+◌, rules, length, arith, refl}
-use Rattle.uvm_phase.specs.declared.agendas.Due.{Due}
-use Rattle.uvm_phase.specs.Dues.{insert_due}
-use Rattle.uvm_phase.specs.Owners.{owners_of}
+use Rattle.uvm_phase.proofs.Common.{◌≡◌, ◌<◌, ◌∙◌, ◌^◌, ◌+◌, rules, length, arith, refl, Due, insert_due, owners_of}
 use Rattle.uvm_phase.proofs.Owning.{count-le, counted-inserted}
 use Rattle.uvm_phase.proofs.Places.{inserted-in-order}
 use Rattle.uvm_phase.proofs.agendas.Agenda.due.Goals as goal

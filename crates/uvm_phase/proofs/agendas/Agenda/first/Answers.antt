@@ -1,7 +1,4 @@
-use Rattle.std.proofs.Common.{◌≡◌, arith, option_copied}
-use Rattle.std.specs.List.{slice_get}
-use Rattle.std.proofs.lemmas.Grind.{common_steps}
-use Rattle.std.proofs.lemmas.Option.{gets}
+use Rattle.uvm_phase.proofs.Common.{◌≡◌, arith, option_copied, slice_get, common_steps, gets}
 use Rattle.uvm_phase.proofs.Places.{least_read}
 use Rattle.uvm_phase.proofs.agendas.Agenda.first.Goals as goal
 

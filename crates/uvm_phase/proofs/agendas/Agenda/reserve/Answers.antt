@@ -1,4 +1,4 @@
-use Rattle.uvm_phase.specs.Owners.{owners_of}
+use Rattle.uvm_phase.proofs.Common.{owners_of}
 use Rattle.uvm_phase.proofs.agendas.Agenda.reserve.Goals as goal
 
 pub invariant_of-self-2 : goal.invariant_of-self-2

@@ -1,5 +1,4 @@
-use Rattle.std.proofs.Common.{◌≡◌, ◌∷◌, rules}
-use Rattle.uvm_phase.specs.Owners.{owners_of}
+use Rattle.uvm_phase.proofs.Common.{◌≡◌, ◌∷◌, rules, owners_of}
 use Rattle.uvm_phase.proofs.Places.{rest-in-order}
 use Rattle.uvm_phase.proofs.agendas.Agenda.take_first.Goals as goal
 

@@ -1,7 +1,4 @@
-use Rattle.std.proofs.Common.{rules, ◌<◌, ◌^◌, length, take, arith}
-use Rattle.std.proofs.lemmas.List.{length_push, length-take-le}
-use Rattle.std.proofs.lemmas.Iterator.Consumers.{YieldsList-turn, YieldsList-from_deque}
-use Rattle.uvm_phase.specs.Owners.{owners_of}
+use Rattle.uvm_phase.proofs.Common.{rules, ◌<◌, ◌^◌, length, take, arith, length_push, length-take-le, YieldsList-turn, YieldsList-from_deque, owners_of}
 use Rattle.uvm_phase.proofs.Owning.{count-le, counted-further}
 use Rattle.uvm_phase.proofs.owners.Owners.count_anew.Goals as goal
 

@@ -1,5 +1,4 @@
-use Rattle.std.proofs.Common.{length, take}
-use Rattle.uvm_phase.specs.Owners.{CountsEach, owners_of}
+use Rattle.uvm_phase.proofs.Common.{length, take, CountsEach, owners_of}
 use Rattle.uvm_phase.proofs.owners.Owners.count_anew.Given as goal
 
 -- those so far are counted

@@ -1,4 +1,4 @@
-use Rattle.std.specs.HashMap.{get}
+use Rattle.uvm_phase.proofs.Common.{get}
 use Rattle.uvm_phase.proofs.Owning.{taken-out}
 use Rattle.uvm_phase.proofs.owners.Owners.take.Goals as goal
 

@@ -1,4 +1,4 @@
-use Rattle.std.proofs.Common.{◌≡◌, ◌≤◌, ◌<◌, ◌+◌, ◌^◌, sum_by, ap, ◌∙◌, arith}
+use Rattle.uvm_report.proofs.Common.{◌≡◌, ◌≤◌, ◌<◌, ◌+◌, ◌^◌, sum_by, ap, ◌∙◌, arith}
 use Rattle.uvm_report.proofs.Counted.{number, all-with_id}
 use Rattle.uvm_report.proofs.tallies.Tally.add.Goals as goal
 use Rattle.uvm_report.proofs.tallies.Tally.add.Goals.{in-Info, in-Warning, in-Error, in-Fatal}

@@ -1,5 +1,4 @@
-use Rattle.std.proofs.Common.{◌∙◌, ap}
-use Rattle.uvm_report.specs.Texts.{lossy}
+use Rattle.uvm_report.proofs.Common.{◌∙◌, ap, lossy}
 use Rattle.uvm_report.proofs.Literals.{lossy_same, lossy_sound}
 use Rattle.uvm_report.proofs.texts.Text.lossy.Goals as goal
 

@@ -1,9 +1,4 @@
-use Rattle.std.proofs.Common.{◌∙◌, ◌<◌, ◌%◌, sym, ap, subst, IsSome, List, length, sum_by, refl}
-use Rattle.std.specs.List.{slice_get}
-use Rattle.uvm_sequencer.specs.declared.requests.Request.{Request}
-use Rattle.uvm_sequencer.specs.Contending.{contending}
-use Rattle.uvm_sequencer.specs.Choices.{choice, contenders}
-use Rattle.uvm_sequencer.specs.Queues.{candidates, priority_of}
+use Rattle.uvm_sequencer.proofs.Common.{◌∙◌, ◌<◌, ◌%◌, sym, ap, subst, IsSome, List, length, sum_by, refl, slice_get, Request, contending, choice, contenders, candidates, priority_of}
 use Rattle.uvm_sequencer.proofs.Contenders.{at-bar, sum-contenders, by-place}
 use Rattle.uvm_sequencer.proofs.choices.Choices.chosen.Goals as goal
 

@@ -1,9 +1,4 @@
-use Rattle.std.proofs.Common.{◌≡◌, ◌<◌, ◌+◌, ◌∙◌, ap, sym, refl, true, Some, drop, length, suc, arith}
-use Rattle.std.specs.List.{slice_get}
-use Rattle.std.proofs.lemmas.Option.{slice_get_read}
-use Rattle.uvm_sequencer.specs.Choices.{first_over}
-use Rattle.uvm_sequencer.specs.Contending.{contending, is_contending}
-use Rattle.uvm_sequencer.specs.Queues.{priority_of}
+use Rattle.uvm_sequencer.proofs.Common.{◌≡◌, ◌<◌, ◌+◌, ◌∙◌, ap, sym, refl, true, Some, drop, length, suc, arith, slice_get, slice_get_read, first_over, contending, is_contending, priority_of}
 use Rattle.uvm_sequencer.proofs.Contenders.{contending-at, over-at}
 use Rattle.uvm_sequencer.proofs.choices.Choices.first_over.Goals as goal
 

@@ -1,6 +1,4 @@
-use Rattle.std.proofs.Common.{◌≡◌, ◌≤◌, ◌*◌, drop}
-use Rattle.uvm_sequencer.specs.Choices.{first_over}
-use Rattle.uvm_sequencer.specs.Contending.{contending}
+use Rattle.uvm_sequencer.proofs.Common.{◌≡◌, ◌≤◌, ◌*◌, drop, first_over, contending}
 use Rattle.uvm_sequencer.proofs.choices.Choices.first_over.Given as goal
 
 -- the one that is sought, among what is left

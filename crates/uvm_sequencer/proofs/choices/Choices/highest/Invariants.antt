@@ -1,6 +1,4 @@
-use Rattle.std.proofs.Common.{◌≡◌, drop, max}
-use Rattle.uvm_sequencer.specs.Queues.{candidates}
-use Rattle.uvm_sequencer.specs.Contending.{highest}
+use Rattle.uvm_sequencer.proofs.Common.{◌≡◌, drop, max, candidates, highest}
 use Rattle.uvm_sequencer.proofs.choices.Choices.highest.Given as goal
 
 -- the greatest so far and of what is left

@@ -1,4 +1,4 @@
-use Rattle.std.proofs.Common.{◌∙◌, sym, ap, is_some}
+use Rattle.uvm_sequencer.proofs.Common.{◌∙◌, sym, ap, is_some}
 use Rattle.uvm_sequencer.proofs.Contenders.{is-drawn, placed}
 use Rattle.uvm_sequencer.proofs.choices.Choices.is_drawn.Goals as goal
 

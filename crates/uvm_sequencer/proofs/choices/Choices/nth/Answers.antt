@@ -1,7 +1,4 @@
-use Rattle.std.proofs.Common.{◌≡◌, ◌∙◌, ap, sym, refl, true, Some, drop, length}
-use Rattle.std.specs.List.{slice_get}
-use Rattle.std.proofs.lemmas.Option.{slice_get_read}
-use Rattle.uvm_sequencer.specs.Contending.{contending, is_contending}
+use Rattle.uvm_sequencer.proofs.Common.{◌≡◌, ◌∙◌, ap, sym, refl, true, Some, drop, length, slice_get, slice_get_read, contending, is_contending}
 use Rattle.uvm_sequencer.proofs.Contenders.{contending-at}
 use Rattle.uvm_sequencer.proofs.choices.Choices.nth.Goals as goal
 

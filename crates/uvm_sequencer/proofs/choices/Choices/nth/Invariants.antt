@@ -1,6 +1,4 @@
-use Rattle.std.proofs.Common.{◌≡◌, drop}
-use Rattle.std.specs.List.{slice_get}
-use Rattle.uvm_sequencer.specs.Contending.{contending}
+use Rattle.uvm_sequencer.proofs.Common.{◌≡◌, drop, slice_get, contending}
 use Rattle.uvm_sequencer.proofs.choices.Choices.nth.Given as goal
 
 -- the one that is sought, among what is left

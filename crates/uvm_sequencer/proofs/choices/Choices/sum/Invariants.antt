@@ -1,6 +1,4 @@
-use Rattle.std.proofs.Common.{◌≡◌, ◌≤◌, ◌+◌, ◌*◌, drop, sum_by}
-use Rattle.uvm_sequencer.specs.Queues.{priority_of}
-use Rattle.uvm_sequencer.specs.Contending.{contending}
+use Rattle.uvm_sequencer.proofs.Common.{◌≡◌, ◌≤◌, ◌+◌, ◌*◌, drop, sum_by, priority_of, contending}
 use Rattle.uvm_sequencer.proofs.choices.Choices.sum.Given as goal
 
 -- the sum so far and of what is left

@@ -1,5 +1,4 @@
-use Rattle.std.proofs.Common.{◌≡◌, ◌<◌, ◌+◌, ◌-◌, ◌∙◌, ap, sym, refl, drop, length, remove, arith, length-drop}
-use Rattle.std.specs.List.{copy_within}
+use Rattle.uvm_sequencer.proofs.Common.{◌≡◌, ◌<◌, ◌+◌, ◌-◌, ◌∙◌, ap, sym, refl, drop, length, arith, copy_within, remove, length-drop}
 use Rattle.uvm_sequencer.proofs.Slots.{removed-before, removed-behind}
 use Rattle.uvm_sequencer.proofs.lines.Line.remove.Goals as goal
 

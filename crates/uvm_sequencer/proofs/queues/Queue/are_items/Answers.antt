@@ -1,7 +1,4 @@
-use Rattle.std.proofs.Common.{◌≡◌, Bool, true, false, IsTrue, length, refl, sym}
-use Rattle.std.specs.Prelude.{◌↔◌}
-use Rattle.std.specs.List.{list_all}
-use Rattle.uvm_sequencer.specs.Queues.{is_item}
+use Rattle.uvm_sequencer.proofs.Common.{◌≡◌, Bool, true, false, IsTrue, length, refl, sym, ◌↔◌, list_all, is_item}
 use Rattle.uvm_sequencer.proofs.Marks.{items-only}
 use Rattle.uvm_sequencer.proofs.queues.Queue.are_items.Goals as goal
 

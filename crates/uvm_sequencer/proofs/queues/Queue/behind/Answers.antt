@@ -1,4 +1,4 @@
-use Rattle.uvm_sequencer.specs.Marks.{has_priority}
+use Rattle.uvm_sequencer.proofs.Common.{has_priority}
 use Rattle.uvm_sequencer.proofs.Passing.{all-behind}
 use Rattle.uvm_sequencer.proofs.queues.Queue.behind.Goals as goal
 

@@ -1,7 +1,4 @@
-use Rattle.std.proofs.Common.{not}
-use Rattle.uvm_sequencer.specs.declared.requests.Request.{Request}
-use Rattle.uvm_sequencer.specs.Queues.{is_item}
-use Rattle.uvm_sequencer.specs.Sequencers.{is_live_at}
+use Rattle.uvm_sequencer.proofs.Common.{not, Request, is_item, is_live_at}
 use Rattle.uvm_sequencer.proofs.Marks.{marked-live}
 use Rattle.uvm_sequencer.proofs.Singles.{single-left}
 use Rattle.uvm_sequencer.proofs.Waiting.{all-filter}

@@ -1,8 +1,4 @@
-use Rattle.std.proofs.Common.{◌≡◌, ◌∙◌, false, not, refl, sym, nat_eq}
-use Rattle.std.specs.HashSet.{contains}
-use Rattle.std.specs.List.{list_any}
-use Rattle.uvm_sequencer.specs.declared.requests.Request.{Request}
-use Rattle.uvm_sequencer.specs.Queues.{is_item, is_item_of, is_lock_of, is_of}
+use Rattle.uvm_sequencer.proofs.Common.{◌≡◌, ◌∙◌, false, not, refl, sym, nat_eq, contains, list_any, Request, is_item, is_item_of, is_lock_of, is_of}
 use Rattle.uvm_sequencer.proofs.Marks.{marked-cut, none-left}
 use Rattle.uvm_sequencer.proofs.Singles.{single-left}
 use Rattle.uvm_sequencer.proofs.Waiting.{all-filter}

@@ -1,8 +1,4 @@
-use Rattle.std.proofs.Common.{◌≡◌, ◌∙◌, false, not, refl, arith, nat_eq}
-use Rattle.std.proofs.lemmas.Grind.{common_steps}
-use Rattle.std.specs.List.{list_any}
-use Rattle.std.specs.HashSet.{contains}
-use Rattle.uvm_sequencer.specs.Queues.{is_item, is_item_of, item_request}
+use Rattle.uvm_sequencer.proofs.Common.{◌≡◌, ◌∙◌, false, not, refl, arith, nat_eq, common_steps, list_any, contains, is_item, is_item_of, item_request}
 use Rattle.uvm_sequencer.proofs.Marks.{marked-last, unmarked-last}
 use Rattle.uvm_sequencer.proofs.Singles.{single-item-last}
 use Rattle.uvm_sequencer.proofs.queues.Queue.put_item.Goals as goal

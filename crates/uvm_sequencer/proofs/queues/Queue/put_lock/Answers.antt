@@ -1,9 +1,4 @@
-use Rattle.std.proofs.Common.{◌≡◌, ◌∙◌, false, not, refl, arith}
-use Rattle.std.proofs.lemmas.Grind.{common_steps}
-use Rattle.std.specs.List.{list_any}
-use Rattle.std.specs.HashSet.{contains}
-use Rattle.std.proofs.Common.{nat_eq}
-use Rattle.uvm_sequencer.specs.Queues.{is_item, is_lock_of, lock_request}
+use Rattle.uvm_sequencer.proofs.Common.{◌≡◌, ◌∙◌, false, not, refl, arith, common_steps, list_any, contains, nat_eq, is_item, is_lock_of, lock_request}
 use Rattle.uvm_sequencer.proofs.Marks.{marked-last, unmarked-last}
 use Rattle.uvm_sequencer.proofs.Singles.{single-lock-last}
 use Rattle.uvm_sequencer.proofs.queues.Queue.put_lock.Goals as goal

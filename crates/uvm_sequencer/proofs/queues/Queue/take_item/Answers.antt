@@ -1,10 +1,4 @@
-use Rattle.std.proofs.Common.{◌≡◌, ◌∙◌, ap, true, not, sym, subst, nat_eq, Some, List}
-use Rattle.std.specs.Prelude.{◌&&◌}
-use Rattle.std.specs.HashSet.{contains}
-use Rattle.std.specs.List.{slice_get}
-use Rattle.std.specs.Option.{option_map, IsSomeAnd}
-use Rattle.uvm_sequencer.specs.declared.requests.Request.{Request}
-use Rattle.uvm_sequencer.specs.Queues.{is_item, is_item_of, is_of, without_item}
+use Rattle.uvm_sequencer.proofs.Common.{◌≡◌, ◌∙◌, ap, true, not, sym, subst, nat_eq, Some, List, ◌&&◌, contains, slice_get, option_map, IsSomeAnd, Request, is_item, is_item_of, is_of, without_item}
 use Rattle.uvm_sequencer.proofs.Marks.{marked-cut, marked-kept}
 use Rattle.uvm_sequencer.proofs.Singles.{single-left}
 use Rattle.uvm_sequencer.proofs.Taking.{item-at, item_out, lock_stays, removed-at, same}

@@ -1,9 +1,4 @@
-use Rattle.std.proofs.Common.{◌≡◌, ◌∙◌, ap, not, sym, nat_eq, Some}
-use Rattle.std.specs.HashSet.{contains}
-use Rattle.std.specs.List.{slice_get}
-use Rattle.std.specs.Option.{option_and_then}
-use Rattle.uvm_sequencer.specs.declared.requests.Request.{Request}
-use Rattle.uvm_sequencer.specs.Queues.{is_item, is_lock_of, is_of, lock_in, without_lock}
+use Rattle.uvm_sequencer.proofs.Common.{◌≡◌, ◌∙◌, ap, not, sym, nat_eq, Some, contains, slice_get, option_and_then, Request, is_item, is_lock_of, is_of, lock_in, without_lock}
 use Rattle.uvm_sequencer.proofs.Marks.{marked-cut, marked-kept}
 use Rattle.uvm_sequencer.proofs.Singles.{single-left}
 use Rattle.uvm_sequencer.proofs.Taking.{item_stays, lock_out, removed-lock}

@@ -1,5 +1,4 @@
-use Rattle.std.proofs.Common.{◌≡◌, ap}
-use Rattle.uvm_sequencer.specs.Sequencers.{SequencerValue}
+use Rattle.uvm_sequencer.proofs.Common.{◌≡◌, ap, SequencerValue}
 use Rattle.uvm_sequencer.proofs.Passing.{candidates-behind}
 use Rattle.uvm_sequencer.proofs.sequencers.Sequencer.choices.Goals as goal
 

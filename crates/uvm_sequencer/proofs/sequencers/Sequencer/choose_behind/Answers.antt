@@ -1,4 +1,4 @@
-use Rattle.std.proofs.Common.{arith}
+use Rattle.uvm_sequencer.proofs.Common.{arith}
 use Rattle.uvm_sequencer.proofs.Waiting.{left-room}
 use Rattle.uvm_sequencer.proofs.sequencers.Sequencer.choose_behind.Goals as goal
 

@@ -1,10 +1,5 @@
-use Rattle.std.proofs.Common.{◌≡◌, ◌∙◌, ◌+◌, ◌<◌, sym, ap, subst, true, IsSome, length, drop, refl, arith}
+use Rattle.uvm_sequencer.proofs.Common.{◌≡◌, ◌∙◌, ◌+◌, ◌<◌, sym, ap, subst, true, IsSome, length, drop, refl, arith, slice_get, option_and_then, IsSomeAnd, SequencerValue, candidates_at, choice, contenders, candidates, is_item}
 use Rattle.uvm_sequencer.proofs.Taking.{within-some}
-use Rattle.std.specs.List.{slice_get}
-use Rattle.std.specs.Option.{option_and_then, IsSomeAnd}
-use Rattle.uvm_sequencer.specs.Sequencers.{SequencerValue, candidates_at}
-use Rattle.uvm_sequencer.specs.Choices.{choice, contenders}
-use Rattle.uvm_sequencer.specs.Queues.{candidates, is_item}
 use Rattle.uvm_sequencer.proofs.Contenders.{not-none}
 use Rattle.uvm_sequencer.proofs.Granting.{choice-item}
 use Rattle.uvm_sequencer.proofs.Passing.{contenders-behind, get-behind, ready-chosen}

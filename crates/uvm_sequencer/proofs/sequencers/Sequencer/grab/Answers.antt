@@ -1,6 +1,4 @@
-use Rattle.std.proofs.Common.{◌≤◌, ◌+◌, length, arith}
-use Rattle.std.proofs.lemmas.Grind.{common_steps}
-use Rattle.uvm_sequencer.specs.Queues.{lock_request}
+use Rattle.uvm_sequencer.proofs.Common.{◌≤◌, ◌+◌, length, arith, common_steps, lock_request}
 use Rattle.uvm_sequencer.proofs.Waiting.{room-first}
 use Rattle.uvm_sequencer.proofs.sequencers.Sequencer.grab.Goals as goal
 

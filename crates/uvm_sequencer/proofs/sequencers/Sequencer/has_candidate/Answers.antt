@@ -1,5 +1,4 @@
-use Rattle.std.proofs.Common.{◌∙◌, ap, length, nat_lt}
-use Rattle.uvm_sequencer.specs.Queues.{is_candidate}
+use Rattle.uvm_sequencer.proofs.Common.{◌∙◌, ap, length, nat_lt, is_candidate}
 use Rattle.uvm_sequencer.proofs.Contenders.{any-some}
 use Rattle.uvm_sequencer.proofs.sequencers.Sequencer.has_candidate.Goals as goal
 

@@ -1,6 +1,4 @@
-use Rattle.std.proofs.Common.{ap, sym}
-use Rattle.std.specs.Option.{option_and_then}
-use Rattle.uvm_sequencer.specs.Queues.{lock_in}
+use Rattle.uvm_sequencer.proofs.Common.{ap, sym, option_and_then, lock_in}
 use Rattle.uvm_sequencer.proofs.Passing.{leading-at}
 use Rattle.uvm_sequencer.proofs.sequencers.Sequencer.leading.Goals as goal
 

@@ -1,10 +1,4 @@
-use Rattle.std.proofs.Common.{◌≡◌, ◌∙◌, ◌≤◌, ◌+◌, ap, sym, not, drop, length, arith}
-use Rattle.std.specs.List.{position_or_len}
-use Rattle.std.proofs.lemmas.List.{length-drop}
-use Rattle.std.proofs.lemmas.List.Sums.{prefix_len-le-length}
-use Rattle.uvm_sequencer.specs.declared.requests.Request.{Request}
-use Rattle.uvm_sequencer.specs.Queues.{is_blocked}
-use Rattle.uvm_sequencer.specs.Sequencers.{SequencerValue}
+use Rattle.uvm_sequencer.proofs.Common.{◌≡◌, ◌∙◌, ◌≤◌, ◌+◌, ap, sym, not, drop, length, arith, position_or_len, prefix_len-le-length, Request, is_blocked, SequencerValue, length-drop}
 use Rattle.uvm_sequencer.proofs.Passing.{passed-more, passed-next}
 use Rattle.uvm_sequencer.proofs.sequencers.Sequencer.passed.Goals as goal
 

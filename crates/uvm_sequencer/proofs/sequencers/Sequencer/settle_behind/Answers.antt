@@ -1,8 +1,4 @@
-use Rattle.std.proofs.Common.{◌≡◌, ◌∙◌, sym, ap, Some}
-use Rattle.std.specs.List.{slice_get}
-use Rattle.std.specs.Option.{option_and_then}
-use Rattle.uvm_sequencer.specs.Queues.{leading_lock, lock_in}
-use Rattle.uvm_sequencer.specs.Sequencers.{SequencerValue, lock_at}
+use Rattle.uvm_sequencer.proofs.Common.{◌≡◌, ◌∙◌, sym, ap, Some, slice_get, option_and_then, leading_lock, lock_in, SequencerValue, lock_at}
 use Rattle.uvm_sequencer.proofs.Waiting.{room-to-grant, room-granted}
 use Rattle.uvm_sequencer.proofs.sequencers.Sequencer.settle_behind.Goals as goal
 

@@ -1,5 +1,4 @@
-use Rattle.std.proofs.Common.{subst}
-use Rattle.uvm_sequences.specs.Sequences.{IsSequences}
+use Rattle.uvm_sequences.proofs.Common.{subst, IsSequences}
 use Rattle.uvm_sequences.proofs.Steps.{are-sequences}
 use Rattle.uvm_sequences.proofs.starts.Sequences.is_live.Goals as goal
 

@@ -1,5 +1,4 @@
-use Rattle.std.proofs.Common.{◌∙◌, ◌<◌, ◌≤◌, sym, subst, arith}
-use Rattle.uvm_sequences.specs.Sequences.{SequencesValue, AreStarted}
+use Rattle.uvm_sequences.proofs.Common.{◌∙◌, ◌<◌, ◌≤◌, sym, subst, arith, SequencesValue, AreStarted}
 use Rattle.uvm_sequences.proofs.Unders.{under-parent, under-none, under-same}
 use Rattle.uvm_sequences.proofs.starts.Sequences.is_under.Goals as goal
 

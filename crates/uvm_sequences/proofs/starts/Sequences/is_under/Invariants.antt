@@ -1,5 +1,4 @@
-use Rattle.std.proofs.Common.{◌≡◌}
-use Rattle.uvm_sequences.specs.Sequences.{is_under}
+use Rattle.uvm_sequences.proofs.Common.{◌≡◌, is_under}
 use Rattle.uvm_sequences.proofs.starts.Sequences.is_under.Given as goal
 
 -- the question is the same at each ancestor

@@ -1,5 +1,4 @@
-use Rattle.std.proofs.Common.{◌∙◌, subst}
-use Rattle.uvm_sequences.specs.Sequences.{SequencesValue, AreStarted}
+use Rattle.uvm_sequences.proofs.Common.{◌∙◌, subst, SequencesValue, AreStarted}
 use Rattle.uvm_sequences.proofs.Living.{names-parent}
 use Rattle.uvm_sequences.proofs.starts.Sequences.names.Goals as goal
 

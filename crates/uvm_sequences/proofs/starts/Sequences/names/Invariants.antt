@@ -1,7 +1,4 @@
-use Rattle.std.proofs.Common.{◌≡◌, suc, ◌++◌, Some}
-use Rattle.std.specs.List.{filter_map}
-use Rattle.std.specs.Option.{option_map_or}
-use Rattle.uvm_sequences.specs.Sequences.{name_at}
+use Rattle.uvm_sequences.proofs.Common.{◌≡◌, suc, ◌++◌, Some, filter_map, option_map_or, name_at}
 use Rattle.uvm_sequences.proofs.Living.{lineage}
 use Rattle.uvm_sequences.proofs.starts.Sequences.names.Given as goal
 

@@ -1,7 +1,4 @@
-use Rattle.std.proofs.Common.{◌≡◌, ◌∙◌, sym, ap, subst, Option, IfSome, ◌<◌, ℕ}
-use Rattle.std.specs.Option.{option_and_then}
-use Rattle.uvm_sequences.specs.Sequences.{SequencesValue, Start, parent_of}
-use Rattle.uvm_sequences.specs.Kept.{starts_of}
+use Rattle.uvm_sequences.proofs.Common.{◌≡◌, ◌∙◌, sym, ap, subst, Option, IfSome, ◌<◌, ℕ, option_and_then, SequencesValue, Start, parent_of, starts_of}
 use Rattle.uvm_sequences.proofs.Unders.{parent-older}
 use Rattle.uvm_sequences.proofs.starts.Sequences.parent.Goals as goal
 

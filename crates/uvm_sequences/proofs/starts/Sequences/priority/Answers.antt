@@ -1,5 +1,4 @@
-use Rattle.std.proofs.Common.{sym, subst}
-use Rattle.uvm_sequences.specs.Sequences.{SequencesValue, AreStarted}
+use Rattle.uvm_sequences.proofs.Common.{sym, subst, SequencesValue, AreStarted}
 use Rattle.uvm_sequences.proofs.Unders.{positive-priority}
 use Rattle.uvm_sequences.proofs.starts.Sequences.priority.Goals as goal
 

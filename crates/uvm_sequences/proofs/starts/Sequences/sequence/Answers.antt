@@ -1,11 +1,5 @@
-use Rattle.std.proofs.Common.{◌≡◌, ◌∙◌, sym, ap, arith, Some, None}
-use Rattle.std.specs.Option.{option_copied, option_map, option_and_then}
-use Rattle.std.specs.List.{slice_get}
-use Rattle.std.proofs.lemmas.Grind.{common_steps}
-use Rattle.std.proofs.lemmas.Option.{gets}
-use Rattle.uvm_sequences.specs.Kept.{place_in, start_of}
+use Rattle.uvm_sequences.proofs.Common.{◌≡◌, ◌∙◌, sym, ap, arith, Some, None, option_copied, option_map, option_and_then, slice_get, common_steps, gets, place_in, start_of, Sequence}
 use Rattle.uvm_sequences.proofs.Numbers.{numbered-kept}
-use Rattle.uvm_sequences.specs.declared.starts.Sequence.{Sequence}
 use Rattle.uvm_sequences.proofs.starts.Sequences.sequence.Goals as goal
 
 pub returns-in-None-clause-start : goal.returns-in-None-clause-start

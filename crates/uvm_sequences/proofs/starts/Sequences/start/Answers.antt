@@ -1,6 +1,4 @@
-use Rattle.std.proofs.Common.{sym, subst, IsSome}
-use Rattle.std.specs.Option.{ForSome}
-use Rattle.uvm_sequences.specs.Sequences.{SequencesValue, numbered}
+use Rattle.uvm_sequences.proofs.Common.{sym, subst, IsSome, ForSome, SequencesValue, numbered}
 use Rattle.uvm_sequences.proofs.Steps.{started-push}
 use Rattle.uvm_sequences.proofs.starts.Sequences.start.Goals as goal
 

@@ -1,7 +1,4 @@
-use Rattle.std.proofs.Common.{◌≡◌, ◌≤◌, ℕ, Bool, true, false, nat_eq, Some, find, cond, length, ap, sym, ◌∙◌, arith}
-use Rattle.std.specs.HashMap.{get}
-use Rattle.std.proofs.lemmas.List.{take_all}
-use Rattle.uvm_tlm.specs.Wirings.{driven_by, driver_in, is_some_of, kind_at, targets_in}
+use Rattle.uvm_tlm.proofs.Common.{◌≡◌, ◌≤◌, ℕ, Bool, true, false, nat_eq, Some, find, cond, length, ap, sym, ◌∙◌, arith, get, take_all, driven_by, driver_in, is_some_of, kind_at, targets_in}
 use Rattle.uvm_tlm.proofs.Noted.{driven_known, driver_noted, driver_stays, none_from, nothing_driven}
 use Rattle.uvm_tlm.proofs.graphs.Graph.drivers.Goals as goal
 use Rattle.uvm_tlm.proofs.graphs.Graph.drivers.Goals.{in-Some+then-not-contains_key+in_ok-insert, in-Some+else-not-contains_key, in_default}

@@ -1,6 +1,4 @@
-use Rattle.std.proofs.Common.{◌≡◌, ℕ, nat_eq, take, find}
-use Rattle.std.specs.HashMap.{get}
-use Rattle.uvm_tlm.specs.Wirings.{driven_by, is_some_of, kind_at, targets_in}
+use Rattle.uvm_tlm.proofs.Common.{◌≡◌, ℕ, nat_eq, take, find, get, driven_by, is_some_of, kind_at, targets_in}
 use Rattle.uvm_tlm.proofs.graphs.Graph.drivers.Given as goal
 
 -- the first driver of each sequencer so far

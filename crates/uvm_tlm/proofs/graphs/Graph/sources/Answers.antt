@@ -1,5 +1,4 @@
-use Rattle.std.proofs.Common.{◌+◌, ◌-◌, ◌<◌, length, ◌∙◌, ap, arith, rules}
-use Rattle.uvm_tlm.specs.Graphs.{has, is_connected}
+use Rattle.uvm_tlm.proofs.Common.{◌+◌, ◌-◌, ◌<◌, length, ◌∙◌, ap, arith, rules, has, is_connected}
 use Rattle.uvm_tlm.proofs.Sources.{search-start, search-step, search-end, few_found}
 use Rattle.uvm_tlm.proofs.graphs.Graph.sources.Goals as goal
 

@@ -1,4 +1,4 @@
-use Rattle.std.proofs.Common.{◌-◌, length}
+use Rattle.uvm_tlm.proofs.Common.{◌-◌, length}
 use Rattle.uvm_tlm.proofs.Sources.{IsSearch}
 use Rattle.uvm_tlm.proofs.graphs.Graph.sources.Given as goal
 

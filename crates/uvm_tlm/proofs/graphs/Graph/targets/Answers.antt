@@ -1,8 +1,4 @@
-use Rattle.std.proofs.Common.{◌≤◌, length, ap, sym, ◌∙◌, arith}
-use Rattle.std.proofs.lemmas.List.{take_all}
-use Rattle.uvm_tlm.specs.NodeLists.{list_of}
-use Rattle.uvm_tlm.specs.Graphs.{has}
-use Rattle.uvm_tlm.specs.Wirings.{targets_in}
+use Rattle.uvm_tlm.proofs.Common.{◌≤◌, length, ap, sym, ◌∙◌, arith, take_all, list_of, has, targets_in}
 use Rattle.uvm_tlm.proofs.Noted.{no_targets, target_noted, no_target_noted}
 use Rattle.uvm_tlm.proofs.graphs.Graph.targets.Goals as goal
 use Rattle.uvm_tlm.proofs.graphs.Graph.targets.Goals.{then-is_target+in_ok-sources+in_ok-push_to_all, else-is_target}

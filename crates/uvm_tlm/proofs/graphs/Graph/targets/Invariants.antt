@@ -1,6 +1,4 @@
-use Rattle.std.proofs.Common.{◌≡◌, ℕ, take}
-use Rattle.uvm_tlm.specs.NodeLists.{list_of}
-use Rattle.uvm_tlm.specs.Wirings.{targets_in}
+use Rattle.uvm_tlm.proofs.Common.{◌≡◌, ℕ, take, list_of, targets_in}
 use Rattle.uvm_tlm.proofs.graphs.Graph.targets.Given as goal
 
 -- the targets so far

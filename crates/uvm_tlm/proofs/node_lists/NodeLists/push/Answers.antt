@@ -1,5 +1,4 @@
-use Rattle.std.proofs.Common.{rules, nat_eq}
-use Rattle.std.specs.HashMap.{get}
+use Rattle.uvm_tlm.proofs.Common.{rules, nat_eq, get}
 use Rattle.uvm_tlm.proofs.Lists.{pushed}
 use Rattle.uvm_tlm.proofs.node_lists.NodeLists.push.Goals as goal
 

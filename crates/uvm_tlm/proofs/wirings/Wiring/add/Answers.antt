@@ -1,9 +1,4 @@
-use Rattle.std.proofs.Common.{◌≡◌, ◌∷◌, nat_eq, reverse, Some, None, is_some, option_map, cond, refl, ap, sym, subst, ◌∙◌}
-use Rattle.std.proofs.lemmas.Bool.{or_right}
-use Rattle.std.specs.HashMap.{keys}
-use Rattle.uvm_tlm.specs.Graphs.{has}
-use Rattle.uvm_tlm.specs.Kept.{nodes_of, value_of}
-use Rattle.uvm_tlm.specs.Wirings.{IsWiring, end_at, with_end}
+use Rattle.uvm_tlm.proofs.Common.{◌≡◌, ◌∷◌, nat_eq, reverse, Some, None, is_some, option_map, cond, refl, ap, sym, subst, ◌∙◌, or_right, keys, has, nodes_of, value_of, IsWiring, end_at, with_end}
 use Rattle.uvm_tlm.proofs.Wired.{added, for_none, nothing_found, reverse-push, seen-more}
 use Rattle.uvm_tlm.proofs.wirings.Wiring.add.Goals as goal
 

@@ -1,8 +1,5 @@
-use Rattle.std.proofs.Common.{◌≡◌, ℕ, nat_eq, reverse, ap, sym, subst, ◌∙◌}
-use Rattle.std.specs.HashMap.{get, keys}
-use Rattle.uvm_tlm.specs.Kept.{connections_of, nodes_of, value_of}
-use Rattle.uvm_tlm.specs.NodeLists.{list_of}
-use Rattle.uvm_tlm.specs.Wirings.{IsPathOrder, driver_in, is_connected, targets_in}
+use Rattle.uvm_tlm.proofs.Common.{◌≡◌, ℕ, nat_eq, reverse, ap, sym, subst, ◌∙◌, get, keys, connections_of, nodes_of, value_of, list_of, IsPathOrder, driver_in, targets_in}
+use Rattle.uvm_tlm.specs.Wirings.{is_connected}
 use Rattle.uvm_tlm.proofs.Listed.{driver-same, listed, targets-same}
 use Rattle.uvm_tlm.proofs.Wired.{closed, for_some}
 use Rattle.uvm_tlm.proofs.wirings.Wiring.close.Goals as goal

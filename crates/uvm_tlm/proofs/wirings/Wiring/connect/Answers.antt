@@ -1,7 +1,5 @@
-use Rattle.std.proofs.Common.{◌≡◌, None, reverse, rules, ap, sym, subst, ◌∙◌}
-use Rattle.std.specs.HashMap.{keys}
-use Rattle.uvm_tlm.specs.Kept.{value_of}
-use Rattle.uvm_tlm.specs.Wirings.{IsWiring, connect_fault, with_connection, is_connected}
+use Rattle.uvm_tlm.proofs.Common.{◌≡◌, None, reverse, rules, ap, sym, subst, ◌∙◌, keys, value_of, IsWiring, connect_fault, with_connection}
+use Rattle.uvm_tlm.specs.Wirings.{is_connected}
 use Rattle.uvm_tlm.proofs.Wired.{between-more, connected, for_none, nothing_found, seen-again, seen-connected, unfaulted}
 use Rattle.uvm_tlm.proofs.wirings.Wiring.connect.Goals as goal
 

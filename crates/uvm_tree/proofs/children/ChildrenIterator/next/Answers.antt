@@ -1,6 +1,4 @@
-use Rattle.std.proofs.Common.{rules, Some, subst}
-use Rattle.uvm_tree.specs.ChildCursors.{seen}
-use Rattle.uvm_tree.specs.Children.{ChildrenValue, GivesNextChild}
+use Rattle.uvm_tree.proofs.Common.{rules, Some, subst, seen, ChildrenValue, GivesNextChild}
 use Rattle.uvm_tree.proofs.Left.{fewer_left, gives_next_child}
 use Rattle.uvm_tree.proofs.children.ChildrenIterator.next.Goals as goal
 

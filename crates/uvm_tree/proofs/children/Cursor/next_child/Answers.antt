@@ -1,7 +1,4 @@
-use Rattle.std.proofs.Common.{option_copied, subst}
-use Rattle.uvm_tree.specs.ChildCursors.{CursorValue}
-use Rattle.uvm_tree.specs.Families.{IsNextChild}
-use Rattle.uvm_tree.specs.Nodes.{AreNodes}
+use Rattle.uvm_tree.proofs.Common.{subst, CursorValue, IsNextChild, AreNodes, option_copied}
 use Rattle.uvm_tree.proofs.Left.{least_child}
 use Rattle.uvm_tree.proofs.children.Cursor.next_child.Goals as goal
 

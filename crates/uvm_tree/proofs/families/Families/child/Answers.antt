@@ -1,5 +1,4 @@
-use Rattle.std.proofs.Common.{◌∷◌, ◌∙◌, sym}
-use Rattle.std.proofs.lemmas.Slice.Eq.{bytes_eq-Decides}
+use Rattle.uvm_tree.proofs.Common.{◌∷◌, ◌∙◌, sym, bytes_eq-Decides}
 use Rattle.uvm_tree.proofs.Standing.{child_found, child_none, child_other}
 use Rattle.uvm_tree.proofs.families.Families.child.Goals as goal
 

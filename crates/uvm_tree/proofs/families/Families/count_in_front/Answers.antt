@@ -1,6 +1,4 @@
-use Rattle.std.proofs.Common.{◌∷◌, rules}
-use Rattle.std.proofs.lemmas.List.Sorted.{IsPartitionPoint-from_clause}
-use Rattle.uvm_tree.specs.Families.{is_in_front}
+use Rattle.uvm_tree.proofs.Common.{◌∷◌, rules, IsPartitionPoint-from_clause, is_in_front}
 use Rattle.uvm_tree.proofs.Standing.{in_front_parts}
 use Rattle.uvm_tree.proofs.families.Families.count_in_front.Goals as goal
 

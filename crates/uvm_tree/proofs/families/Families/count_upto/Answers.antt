@@ -1,6 +1,4 @@
-use Rattle.std.proofs.Common.{◌∷◌, rules}
-use Rattle.std.proofs.lemmas.List.Sorted.{IsPartitionPoint-from_clause}
-use Rattle.uvm_tree.specs.Families.{is_upto}
+use Rattle.uvm_tree.proofs.Common.{◌∷◌, rules, IsPartitionPoint-from_clause, is_upto}
 use Rattle.uvm_tree.proofs.Standing.{upto_parts}
 use Rattle.uvm_tree.proofs.families.Families.count_upto.Goals as goal
 

@@ -1,5 +1,4 @@
-use Rattle.std.proofs.Common.{◌∷◌, Option, ℕ, option_copied, subst, sym}
-use Rattle.uvm_tree.specs.Families.{IsNextChild}
+use Rattle.uvm_tree.proofs.Common.{◌∷◌, Option, ℕ, subst, sym, IsNextChild, option_copied}
 use Rattle.uvm_tree.proofs.Standing.{next_child}
 use Rattle.uvm_tree.proofs.families.Families.next_child.Goals as goal
 

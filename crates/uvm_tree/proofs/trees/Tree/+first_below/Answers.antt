@@ -1,5 +1,4 @@
-use Rattle.std.proofs.Common.{None, arith}
-use Rattle.uvm_glob.specs.declared.orders.Direction.TheVariants.{Up}
+use Rattle.uvm_tree.proofs.Common.{None, arith, Up}
 use Rattle.uvm_tree.proofs.Grown.{within}
 use Rattle.uvm_tree.proofs.Kin.{after_child}
 use Rattle.uvm_tree.proofs.Up.{first-alone, first-child}

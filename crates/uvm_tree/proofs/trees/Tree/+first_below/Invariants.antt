@@ -1,4 +1,4 @@
-use Rattle.std.proofs.Common.{◌-◌, length}
+use Rattle.uvm_tree.proofs.Common.{◌-◌, length}
 use Rattle.uvm_tree.proofs.trees.Tree.+first_below.Given as goal
 
 -- a child stands behind its parent

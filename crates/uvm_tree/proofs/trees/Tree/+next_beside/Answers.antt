@@ -1,6 +1,4 @@
-use Rattle.std.proofs.Common.{◌∙◌, sym, subst, arith, Option, List, ℕ, Some, None}
-use Rattle.uvm_glob.specs.declared.orders.Direction.TheVariants.{Down}
-use Rattle.uvm_tree.specs.Families.{IsNextChild}
+use Rattle.uvm_tree.proofs.Common.{◌∙◌, sym, subst, arith, Option, List, ℕ, Some, None, Down, IsNextChild}
 use Rattle.uvm_tree.proofs.Down.{beside-none, beside-some, beside-top}
 use Rattle.uvm_tree.proofs.Kin.{has_parent, no_parent}
 use Rattle.uvm_tree.proofs.trees.Tree.+next_beside.Goals as goal

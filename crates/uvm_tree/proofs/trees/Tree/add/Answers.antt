@@ -1,9 +1,4 @@
-use Rattle.std.proofs.Common.{rules, ◌≡◌, ◌∷◌, ◌++◌, ◌∙◌, ap, sym, subst, arith, length, [], None, Some, Ok, List, ℕ, true, false}
-use Rattle.std.proofs.lemmas.Grind.{common_steps}
-use Rattle.std.specs.List.{insert}
-use Rattle.std.specs.List.Sorted.{IsPartitionPoint}
-use Rattle.uvm_tree.specs.Families.{Place, is_in_front}
-use Rattle.uvm_tree.specs.Nodes.{Node, AreSound, TreeValue, add_fault, child, path_at}
+use Rattle.uvm_tree.proofs.Common.{rules, ◌≡◌, ◌∷◌, ◌++◌, ◌∙◌, ap, sym, subst, arith, length, [], None, Some, Ok, List, ℕ, true, false, common_steps, insert, IsPartitionPoint, Place, is_in_front, Node, AreSound, TreeValue, add_fault, child, path_at}
 use Rattle.uvm_tree.proofs.Added.{families_grow}
 use Rattle.uvm_tree.proofs.Grown.{added}
 use Rattle.uvm_tree.proofs.Sound.{sound-added}

@@ -1,5 +1,4 @@
-use Rattle.std.proofs.Common.{◌∷◌, ◌++◌, ◌∙◌, []}
-use Rattle.uvm_tree.specs.Nodes.{number_at, path_at}
+use Rattle.uvm_tree.proofs.Common.{◌∷◌, ◌++◌, ◌∙◌, [], number_at, path_at}
 use Rattle.uvm_tree.proofs.Sound.{found_sound}
 use Rattle.uvm_tree.proofs.trees.Tree.child.Goals as goal
 

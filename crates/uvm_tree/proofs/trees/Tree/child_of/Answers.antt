@@ -1,5 +1,4 @@
-use Rattle.std.proofs.Common.{◌≡◌, ◌∷◌, ◌++◌, ◌<◌, [], List, length, subst, sym}
-use Rattle.uvm_tree.specs.Nodes.{Node, number_at, path_at}
+use Rattle.uvm_tree.proofs.Common.{◌≡◌, ◌∷◌, ◌++◌, ◌<◌, [], List, length, subst, sym, Node, number_at, path_at}
 use Rattle.uvm_tree.proofs.Finding.{child-number}
 use Rattle.uvm_tree.proofs.trees.Tree.child_of.Goals as goal
 

@@ -1,10 +1,4 @@
-use Rattle.std.proofs.Common.{rules, ◌≡◌, ◌∷◌, ◌++◌, ◌+◌, ◌==◌, ◌∙◌, [], length, sym, ap, subst, take, arith}
-use Rattle.std.proofs.lemmas.List.{append-nil, length_push, take_all}
-use Rattle.std.proofs.lemmas.Iterator.Consumers.{YieldsList-turn, YieldsList-end}
-use Rattle.std.proofs.lemmas.Iterator.Splits.{YieldsList-from_slice_split}
-use Rattle.std.specs.Slice.Iter.{split_callee, split_done, split_rest}
-use Rattle.uvm_glob.specs.Paths.{between_dots}
-use Rattle.uvm_tree.specs.Nodes.{AreNodes, TreeValue, number_at, path_at}
+use Rattle.uvm_tree.proofs.Common.{rules, ◌≡◌, ◌∷◌, ◌++◌, ◌+◌, ◌∙◌, [], length, sym, ap, subst, take, arith, length_push, take_all, YieldsList-turn, YieldsList-end, YieldsList-from_slice_split, split_callee, split_done, split_rest, between_dots, AreNodes, TreeValue, number_at, path_at, ◌==◌, append-nil}
 use Rattle.uvm_tree.proofs.Finding.{found-at, none-whole, number-is, one-further}
 use Rattle.uvm_tree.proofs.trees.Tree.descend.Goals as goal
 

@@ -1,6 +1,4 @@
-use Rattle.std.proofs.Common.{◌≡◌, ◌<◌, ◌++◌, length, take}
-use Rattle.uvm_glob.specs.Paths.{between_dots}
-use Rattle.uvm_tree.specs.Nodes.{path_at}
+use Rattle.uvm_tree.proofs.Common.{◌≡◌, ◌<◌, ◌++◌, length, take, between_dots, path_at}
 use Rattle.uvm_tree.proofs.trees.Tree.descend.Given as goal
 
 -- the node is at the names so far

@@ -1,5 +1,4 @@
-use Rattle.std.proofs.Common.{◌++◌, ◌∙◌, ap}
-use Rattle.uvm_tree.specs.Nodes.{number_at}
+use Rattle.uvm_tree.proofs.Common.{◌++◌, ◌∙◌, ap, number_at}
 use Rattle.uvm_tree.proofs.Below.{top-path}
 use Rattle.uvm_tree.proofs.Paths.{Names}
 use Rattle.uvm_tree.proofs.trees.Tree.find.Goals as goal

@@ -1,8 +1,4 @@
-use Rattle.std.proofs.Common.{◌≡◌, ◌≢◌, ◌∷◌, Some, ◌++◌, ◌∙◌, [], List, ℕ, length, refl, sym, ap, arith}
-use Rattle.std.proofs.lemmas.Bool.{eqb-true, eqb-false}
-use Rattle.std.proofs.lemmas.List.{append-nil}
-use Rattle.uvm_glob.specs.Paths.{between_dots, names_of}
-use Rattle.uvm_tree.specs.Nodes.{number_at, path_at}
+use Rattle.uvm_tree.proofs.Common.{◌≡◌, ◌≢◌, ◌∷◌, Some, ◌++◌, ◌∙◌, [], List, ℕ, length, refl, sym, ap, arith, eqb-true, eqb-false, between_dots, names_of, number_at, path_at, append-nil}
 use Rattle.uvm_tree.proofs.Finding.{number-is}
 use Rattle.uvm_tree.proofs.Paths.{Names}
 use Rattle.uvm_tree.proofs.Sound.{found_sound}

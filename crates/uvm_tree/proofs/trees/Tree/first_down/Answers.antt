@@ -1,4 +1,4 @@
-use Rattle.uvm_glob.specs.declared.orders.Direction.TheVariants.{Down}
+use Rattle.uvm_tree.proofs.Common.{Down}
 use Rattle.uvm_tree.proofs.Down.{down-first}
 use Rattle.uvm_tree.proofs.trees.Tree.first_down.Goals as goal
 

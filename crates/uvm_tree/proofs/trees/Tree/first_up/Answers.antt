@@ -1,4 +1,4 @@
-use Rattle.uvm_glob.specs.declared.orders.Direction.TheVariants.{Up}
+use Rattle.uvm_tree.proofs.Common.{Up}
 use Rattle.uvm_tree.proofs.Up.{up-first}
 use Rattle.uvm_tree.proofs.trees.Tree.first_up.Goals as goal
 

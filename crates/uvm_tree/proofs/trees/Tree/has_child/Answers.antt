@@ -1,6 +1,4 @@
-use Rattle.std.proofs.Common.{◌≡◌, ◌∷◌, ◌∙◌, List, is_some, subst, ap}
-use Rattle.std.specs.List.{list_any}
-use Rattle.uvm_tree.specs.Nodes.{Node, is_child}
+use Rattle.uvm_tree.proofs.Common.{◌≡◌, ◌∷◌, ◌∙◌, List, is_some, subst, ap, list_any, Node, is_child}
 use Rattle.uvm_tree.proofs.Finding.{has-child}
 use Rattle.uvm_tree.proofs.trees.Tree.has_child.Goals as goal
 

@@ -1,6 +1,4 @@
-use Rattle.std.proofs.Common.{Option, ℕ, subst, sym}
-use Rattle.uvm_glob.specs.Orders.{down_cmp}
-use Rattle.uvm_tree.specs.Cursors.{IsLeast, is_before, nodes_after}
+use Rattle.uvm_tree.proofs.Common.{Option, ℕ, subst, sym, down_cmp, IsLeast, is_before, nodes_after}
 use Rattle.uvm_tree.proofs.trees.Tree.next_down.Goals as goal
 
 pub returns-in-Some-clause-next : goal.returns-in-Some-clause-next

@@ -1,6 +1,5 @@
-use Rattle.std.proofs.Common.{◌∙◌, sym, ap}
+use Rattle.uvm_tree.proofs.Common.{◌∙◌, sym, ap, Down}
 use Rattle.std.specs.Option.{option_copied}
-use Rattle.uvm_glob.specs.declared.orders.Direction.TheVariants.{Down}
 use Rattle.uvm_tree.proofs.Down.{down-lost, down-to_beside, down-to_child}
 use Rattle.uvm_tree.proofs.trees.Tree.next_down_after.Goals as goal
 

@@ -1,8 +1,4 @@
-use Rattle.std.proofs.Common.{◌≢◌, ◌∙◌, sym, subst, arith, refl, Option, List, ℕ, Some, None}
-use Rattle.std.proofs.lemmas.Bool.{eqb-true, eqb-false}
-use Rattle.uvm_glob.specs.declared.orders.Direction.TheVariants.{Down, Up}
-use Rattle.uvm_tree.specs.Families.{IsNextChild}
-use Rattle.uvm_tree.specs.Nodes.{node_at}
+use Rattle.uvm_tree.proofs.Common.{◌≢◌, ◌∙◌, sym, subst, arith, refl, Option, List, ℕ, Some, None, eqb-true, eqb-false, Down, Up, IsNextChild, node_at}
 use Rattle.uvm_tree.proofs.Down.{no_path}
 use Rattle.uvm_tree.proofs.Grown.{within}
 use Rattle.uvm_tree.proofs.Kin.{after_child, has_parent, no_parent}

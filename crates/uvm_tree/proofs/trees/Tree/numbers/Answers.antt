@@ -1,5 +1,4 @@
-use Rattle.std.proofs.Common.{◌≡◌, ◌+◌, ◌∙◌, add-one, ap, arith, ◌++◌, ◌∷◌, []}
-use Rattle.std.specs.List.{range_with_len}
+use Rattle.uvm_tree.proofs.Common.{◌≡◌, ◌+◌, ◌∙◌, add-one, ap, arith, ◌++◌, ◌∷◌, [], range_with_len}
 use Rattle.uvm_tree.proofs.Ranges.{range-more}
 use Rattle.uvm_tree.proofs.trees.Tree.numbers.Goals as goal
 

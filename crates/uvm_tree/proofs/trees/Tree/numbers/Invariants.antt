@@ -1,5 +1,4 @@
-use Rattle.std.proofs.Common.{◌≡◌}
-use Rattle.std.specs.List.{range_with_len}
+use Rattle.uvm_tree.proofs.Common.{◌≡◌, range_with_len}
 use Rattle.uvm_tree.proofs.trees.Tree.numbers.Given as goal
 
 -- the nodes so far

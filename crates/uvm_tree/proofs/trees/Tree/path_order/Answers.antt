@@ -1,10 +1,4 @@
-use Rattle.std.proofs.Common.{rules, subst, IsPermutation, List, ℕ}
-use Rattle.std.proofs.lemmas.List.MinMax.{ranks_by}
-use Rattle.std.proofs.lemmas.Fn.{always_returns_same}
-use Rattle.uvm_glob.specs.declared.orders.Direction.TheVariants.{Down}
-use Rattle.uvm_glob.specs.Orders.{down_cmp}
-use Rattle.uvm_tree.specs.Nodes.{path_at}
-use Rattle.uvm_tree.specs.Cursors.{is_before, numbers_of}
+use Rattle.uvm_tree.proofs.Common.{rules, subst, List, ℕ, ranks_by, always_returns_same, Down, down_cmp, path_at, is_before, numbers_of, IsPermutation}
 use Rattle.uvm_tree.proofs.SortedPaths.{sorted-is-path-order}
 use Rattle.uvm_tree.proofs.trees.Tree.path_order.Goals as goal
 

@@ -1,6 +1,4 @@
-use Rattle.std.proofs.Common.{◌≡◌, ◌∷◌, ◌<◌, ◌≤◌, ℕ, arith, length, vec_capacity, List, subst, sym}
-use Rattle.uvm_tree.specs.Families.{AreFamilies}
-use Rattle.uvm_tree.specs.Nodes.{Node, AreNodes, AreSound, most_nodes, path_at}
+use Rattle.uvm_tree.proofs.Common.{◌≡◌, ◌∷◌, ◌<◌, ◌≤◌, ℕ, arith, length, vec_capacity, List, subst, sym, AreFamilies, Node, AreNodes, AreSound, most_nodes, path_at}
 use Rattle.uvm_tree.proofs.trees.Tree.reserve.Goals as goal
 
 -- the room stays what it was

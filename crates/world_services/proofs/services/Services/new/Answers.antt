@@ -1,17 +1,6 @@
-use Rattle.std.proofs.Common.{◌≡◌, List, [], refl, arith, rules}
-use Rattle.uvm_tree.specs.Sorted.{path_order}
-use Rattle.bench_history.specs.History.{nodes_of}
-use Rattle.bench_history.specs.Owners.{Event}
-use Rattle.bench_history.specs.Passing.{passing_at}
-use Rattle.world_fifos.specs.Passings.{AreUnsettled}
-use Rattle.world_sequencers.proofs.Arbiting.{arbitrating-first}
-use Rattle.world_objections.specs.Phased.{nodes_in}
-use Rattle.world_agenda.specs.Agendas.{IsAgenda}
-use Rattle.world_agenda.proofs.Objected.{objecting-first}
-use Rattle.world_services.proofs.Passages.{passed-first, stations-first, unsettled-none}
-use Rattle.world_sequences.specs.Sequencings.{IsSequencing}
-use Rattle.world_sequences.proofs.Sequenced.{sequencing-first}
-use Rattle.world_services.proofs.Rounding.{rounds-first}
+use Rattle.world_services.proofs.Common.{◌≡◌, List, [], refl, arith, rules, path_order, nodes_of, Event, passing_at, AreToSettle, arbitrating-first, nodes_in, IsAgenda, objecting-first, IsSequencing, sequencing-first}
+use Rattle.world_services.proofs.Passages.{passed-first, fifo_states-first, fifos_to_settle-none}
+use Rattle.world_services.proofs.Rounding.{phase_cursors-first}
 use Rattle.world_services.proofs.services.Services.new.Goals as goal
 
 -- nothing is due
@@ -24,8 +13,8 @@ agenda-first dues none = record {
 }
 
 pub returns : goal.returns
-returns c = λ script given factory settings reporting.
-    let unsettled : AreUnsettled (passing_at []) (path_order (nodes_of [])) [] = unsettled-none (path_order (nodes_of [])) (λ n. refl) in
+returns c = λ script given factory settings report_state.
+    let fifos_to_settle : AreToSettle (passing_at []) (path_order (nodes_of [])) [] = fifos_to_settle-none (path_order (nodes_of [])) (λ n. refl) in
     let sequencing : IsSequencing [] [] [] [] c.new-7.result [] = sequencing-first c.new-7.ensures.started c.new-7.ensures.steps in
     record {
       stage = refl;
@@ -36,18 +25,18 @@ returns c = λ script given factory settings reporting.
       connecting = rw c.new-2.ensures (search rules);
       closing = rw c.new-2.ensures (search rules);
       closed_past = record { is = λ e. cc };
-      stations = stations-first c.new-3.ensures.empty;
+      fifo_states = fifo_states-first c.new-3.ensures.empty;
       passed = passed-first;
-      unsettled = search (rules, unsettled);
+      fifos_to_settle = search (rules, fifos_to_settle);
       arbitrating = arbitrating-first (nodes_of []) c.new-5.ensures.empty c.new-6.ensures.nodes;
       sequencing = search (rules, sequencing);
       objections = record { given = given; each = λ phase task. objecting-first (nodes_in c.args.objections phase) c.nodes_grow.ensures.0 (c.requires phase) };
       factory = factory;
-      turns = rounds-first c.new-10.ensures.last c.new-10.ensures.late;
+      phase_cursors = phase_cursors-first c.new-10.ensures.last c.new-10.ensures.late;
       answer = search rules;
       speaks = omega arith;
       built = refl;
-      reporting = reporting;
+      report_state = report_state;
       settings = settings;
       agenda = agenda-first c.new-9.result.dues c.new-9.ensures;
       events = search rules;

@@ -1,6 +1,0 @@
-mod Inverse
-mod Parts
-mod Passing
-mod Splits
-mod Tells
-mod WordsOf

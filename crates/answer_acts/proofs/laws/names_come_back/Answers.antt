@@ -1,5 +1,0 @@
-use Rattle.answer_acts.proofs.Parts.{names-back}
-use Rattle.answer_acts.proofs.laws.names_come_back.Goals as goal
-
-pub returns : goal.returns
-returns c = names-back

@@ -1,9 +1,0 @@
-mod Between
-mod CallReads
-mod Cuts
-mod Digits
-mod KeyReads
-mod KeyWords
-mod Refusals
-mod Shapes
-mod Tells

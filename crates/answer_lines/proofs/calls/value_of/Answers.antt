@@ -1,6 +1,0 @@
-use Rattle.std.proofs.Common.{ap, ◌∙◌, sym, Ok}
-use Rattle.answer_lines.proofs.CallReads.{value-none}
-use Rattle.answer_lines.proofs.calls.value_of.Goals as goal
-
-pub returns-in-none : goal.returns-in-none
-returns-in-none c = λ value can same. ap Ok (value-none value can (sym c.in-none.is ∙ same))

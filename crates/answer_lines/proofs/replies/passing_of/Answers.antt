@@ -1,9 +1,0 @@
-use Rattle.std.proofs.Common.{◌∙◌, List, ℕ, ◌++◌, sym, ap, codes}
-use Rattle.answer_lines.proofs.Refusals.{starred}
-use Rattle.answer_lines.proofs.replies.passing_of.Goals as goal
-
-pub returns-clause-none : goal.returns-clause-none
-returns-clause-none c =
-    let cases = c.in_ok-strip_suffix.ensures.cases in
-    starred c.args.line.now c.in_ok-strip_suffix.field-0.now c.relay_of.result
-    (cases.1.1 ∙ ap (λ (front : List ℕ). front ++ codes " *") (sym cases.2)) c.relay_of.ensures.none

@@ -1,5 +1,0 @@
-use Rattle.answer_lines.proofs.Cuts.{none-left}
-use Rattle.answer_lines.proofs.words.Words.is_done.Goals as goal
-
-pub returns : goal.returns
-returns c = none-left c.args.self.now.left c.is_none.result c.is_none.ensures

@@ -1,9 +1,0 @@
-use Rattle.std.proofs.Common.{arith}
-use Rattle.std.proofs.lemmas.Fmt.{parse-decimal}
-use Rattle.answer_lines.proofs.words.tag_of.Goals as goal
-
-pub returns-in-Ok : goal.returns-in-Ok
-returns-in-Ok c = λ n fits is. cc (parse-decimal 32 n c.args.word.now c.parse.result fits (omega arith) is c.parse.ensures.value.0)
-
-pub returns-in-Err : goal.returns-in-Err
-returns-in-Err c = λ n fits is. cc (parse-decimal 32 n c.args.word.now c.parse.result fits (omega arith) is c.parse.ensures.value.0)

@@ -1,9 +1,0 @@
-pub mod CallLaws
-pub mod Calls
-pub mod Faults
-pub mod KeyWords
-pub mod Keys
-pub mod Laws
-pub mod Reading
-pub mod Replies
-pub mod Words

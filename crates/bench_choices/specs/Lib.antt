@@ -1,2 +1,0 @@
-pub mod Choices
-pub use Rattle.bench_views.specs.Worlds

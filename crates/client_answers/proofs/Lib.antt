@@ -1,4 +1,0 @@
-mod NoLines
-mod Shown
-mod Stops
-mod Tells

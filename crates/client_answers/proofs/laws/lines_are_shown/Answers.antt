@@ -1,5 +1,0 @@
-use Rattle.client_answers.proofs.Shown as shown
-use Rattle.client_answers.proofs.laws.lines_are_shown.Goals as goal
-
-pub returns : goal.returns
-returns c = shown.lines_are_shown

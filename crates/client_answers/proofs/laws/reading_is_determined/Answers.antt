@@ -1,5 +1,0 @@
-use Rattle.client_answers.proofs.Tells as tells
-use Rattle.client_answers.proofs.laws.reading_is_determined.Goals as goal
-
-pub returns : goal.returns
-returns c = tells.reading_is_determined

@@ -1,4 +1,0 @@
-pub mod Answers
-pub mod Readers
-pub mod Errors
-pub mod Laws

@@ -1,9 +1,0 @@
-//! Reads the lines of a client: at most 4,096 bytes and a newline each.
-#![tactic(auto)]
-
-mod errors;
-mod lines;
-mod parts;
-
-pub use errors::LineError;
-pub use lines::{MOST_BYTES, read_line};

@@ -1,4 +1,0 @@
-mod Lists
-mod Numbers
-mod Places
-mod Sitters

@@ -1,5 +1,0 @@
-pub mod Seats
-pub mod Places
-pub mod SequenceSeats
-pub mod Numbered
-pub mod Asked

@@ -1,0 +1,10 @@
+mod Between
+mod CallReads
+mod Common
+mod Cuts
+mod Digits
+mod KeyReads
+mod KeyWords
+mod Refusals
+mod Shapes
+mod Tells

@@ -1,0 +1,9 @@
+pub mod CallLaws
+pub mod Calls
+pub mod Faults
+pub mod KeyWords
+pub mod Keys
+pub mod Laws
+pub mod Reading
+pub mod AnswerActs
+pub mod Words

@@ -1,0 +1,3 @@
+pub mod Breakages
+pub mod Files
+pub mod Scripts

@@ -1,0 +1,10 @@
+pub mod Answering
+mod Common
+mod Entries
+mod FirstFaults
+mod Functions
+mod Single
+mod Sorting
+mod Types
+mod Unique
+pub mod Whoever

@@ -1,7 +1,0 @@
-mod Entries
-mod FirstFaults
-mod Functions
-mod Single
-mod Sorting
-mod Types
-mod Unique

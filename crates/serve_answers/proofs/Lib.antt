@@ -1,0 +1,5 @@
+mod NoLines
+mod Shown
+mod Stops
+mod Tells
+mod Shortened

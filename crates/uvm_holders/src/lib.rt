@@ -1,6 +1,0 @@
-//! Who holds a sequencer (IEEE 1800.2-2020, Clause 15).
-#![tactic(auto)]
-
-mod holders;
-
-pub use holders::Holders;

@@ -1,0 +1,3 @@
+pub mod Holding
+-- internal definitions, which the function bodies use and no caller needs
+pub mod Runs

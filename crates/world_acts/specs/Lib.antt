@@ -1,0 +1,4 @@
+pub mod TreeKinds
+pub mod PortsKinds
+pub mod DriversMatch
+pub mod SequencersKinds

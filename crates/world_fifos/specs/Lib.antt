@@ -1,2 +1,0 @@
-pub mod Passings
-pub mod Stations

@@ -1,8 +1,0 @@
-use Rattle.std.proofs.Common.{◌≡◌}
-use Rattle.uvm_objection.specs.Nodes.{with_drain}
-use Rattle.world_objections.proofs.Listed.{HaveChanged}
-use Rattle.world_objections.proofs.objections.Objections.set_each_drain.Given as goal
-
--- each before this place has its drain time
-abbrev pub invariant-loop-place : goal.invariant-loop-place
-invariant-loop-place l = HaveChanged (with_drain l.node l.ticks) l.place l.initial.self.each l.self.each × (l.self.given ≡ l.initial.self.given)

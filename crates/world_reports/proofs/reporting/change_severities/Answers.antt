@@ -1,9 +1,0 @@
-use Rattle.bench_history.specs.Reports.{severity_command}
-use Rattle.world_reports.proofs.Given.{given-more}
-use Rattle.world_reports.proofs.reporting.change_severities.Goals as goal
-
--- one more
-pub loop-change-preserved : goal.loop-change-preserved
-loop-change-preserved c = λ commands kept.
-    rw (given-more severity_command c.args.given.now c.loop-change.change-index c.change-item.result c.loop-change-test.true, ← c.change-item.is, ← c.in_ok-scope.ensures)
-    (c.in_ok-set_severity.ensures _ _ (c.loop-change.invariant commands kept))

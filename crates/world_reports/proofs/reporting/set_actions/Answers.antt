@@ -1,9 +1,0 @@
-use Rattle.bench_history.specs.Reports.{action_command}
-use Rattle.world_reports.proofs.Given.{given-more}
-use Rattle.world_reports.proofs.reporting.set_actions.Goals as goal
-
--- one more
-pub loop-setting-preserved : goal.loop-setting-preserved
-loop-setting-preserved c = λ commands kept.
-    rw (given-more action_command c.args.given.now c.loop-setting.setting-index c.setting-item.result c.loop-setting-test.true, ← c.setting-item.is, ← c.in_ok-scope.ensures)
-    (c.in_ok-set_action.ensures _ _ (c.loop-setting.invariant commands kept))

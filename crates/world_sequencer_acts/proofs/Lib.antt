@@ -1,5 +1,0 @@
-pub mod Begun
-pub mod Driven
-pub mod Finished
-pub mod Seated
-pub mod Stepped

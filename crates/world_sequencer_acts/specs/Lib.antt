@@ -1,2 +1,0 @@
-pub mod Drivings
-pub mod Kinds

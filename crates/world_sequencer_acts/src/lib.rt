@@ -1,8 +1,0 @@
-//! The acts of sequences and of drivers at sequencers. A room below `bench_world`.
-#![tactic(auto)]
-
-pub mod drivers;
-pub mod performing;
-pub mod requests;
-pub mod starts;
-pub mod steps;

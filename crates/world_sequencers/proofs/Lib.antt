@@ -1,4 +1,0 @@
-pub mod Arbited
-pub mod Arbiting
-pub mod Contested
-pub mod Phased

@@ -1,8 +1,0 @@
-use Rattle.std.proofs.Common.{◌≡◌, drop, map}
-use Rattle.uvm_glob.specs.Lists.{first_given}
-use Rattle.world_sequencers.specs.Arbiters.{served_in}
-use Rattle.world_sequencers.proofs.arbiters.first_served.Given as goal
-
--- nothing is granted at those so far
-abbrev pub invariant-loop-node : goal.invariant-loop-node
-invariant-loop-node l = first_given (map (served_in l.sequences.started l.arbiters) l.nodes) ≡ first_given (map (served_in l.sequences.started l.arbiters) (drop l.node-index l.nodes))

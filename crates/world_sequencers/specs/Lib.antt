@@ -1,3 +1,0 @@
-pub mod Arbiters
-pub mod Arbitratings
-pub mod Contests

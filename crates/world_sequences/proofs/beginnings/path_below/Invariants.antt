@@ -1,6 +1,0 @@
-use Rattle.std.proofs.Common.{◌≡◌, ◌+◌, ◌++◌, length, take}
-use Rattle.world_sequences.proofs.beginnings.path_below.Given as goal
-
--- the names so far, and how many they are
-abbrev pub invariant-loop-parent : goal.invariant-loop-parent
-invariant-loop-parent l = (l.below ≡ l.path ++ take l.parent-index l.names) × (l.depth ≡ length l.path + l.parent-index)

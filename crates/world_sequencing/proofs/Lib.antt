@@ -1,0 +1,10 @@
+pub mod Arbited
+pub mod Arbiting
+pub mod Common
+pub mod Contested
+pub mod Ending
+pub mod Longer
+pub mod Numbered
+pub mod Phased
+pub mod Sequenced
+pub mod Starters

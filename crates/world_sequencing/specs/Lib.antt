@@ -1,0 +1,4 @@
+pub mod SequencesMatch
+pub mod Arbiters
+pub mod ArbitersMatch
+pub mod GrantIndexes

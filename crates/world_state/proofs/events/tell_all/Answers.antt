@@ -1,0 +1,24 @@
+use Rattle.world_state.proofs.Common.{◌≡◌, ◌++◌, ◌∷◌, List, Some, suc, drop, refl, ap, sym, ◌∙◌, add-one, drop-cons, in_order, Object, DueCall, event_in, Event}
+use Rattle.world_state.proofs.Lists.{drop-past}
+use Rattle.world_state.proofs.Written.{numbered-one}
+use Rattle.world_state.proofs.events.tell_all.Goals as goal
+
+pub loop-number-init : goal.loop-number-init
+loop-number-init c = λ caused is. (caused, is, refl)
+
+-- one more call is due
+pub loop-number-preserved : goal.loop-number-preserved
+loop-number-preserved c = λ caused is.
+    let p = c.loop-number.invariant caused is in
+    let calls = c.args.calls.now in
+    let at = c.loop-number.number in
+    let told = c.index-calls-number.result in
+    let here : drop at calls ≡ told ∷ drop (suc at) calls = drop-cons calls at told c.loop-number-test.true ∙ ap (λ (t : DueCall). t ∷ drop (suc at) calls) (sym c.index-calls-number.is) in
+    let event : List Event = event_in told.phase c.args.time (record { place = c.args.place; number = at }) (Object told.who) (Some told.call) in
+    (event ++ p.0, rw (c.in_ok-cause.ensures, c.in_ok-held.ensures.ok) at (c.in_ok-add_call.ensures.dues p.0 p.1), rw add-one (numbered-one c.args.time c.args.place at (drop at calls) (drop (suc at) calls) told p.0 _ here p.2))
+
+pub returns : goal.returns
+returns c = λ caused is.
+    let p = c.loop-number.invariant caused is in
+    let whole = rw (drop-past c.args.calls.now c.loop-number.number c.loop-number-test.false) at p.2 in
+    p.1 ∙ ap (λ (events : List Event). in_order events) whole

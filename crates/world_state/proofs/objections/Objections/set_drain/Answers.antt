@@ -1,0 +1,8 @@
+use Rattle.world_state.proofs.Common.{ap, ObjectionsValue}
+use Rattle.world_state.proofs.Listed.{others-stay}
+use Rattle.world_state.proofs.objections.Objections.set_drain.Goals as goal
+
+pub returns-clause-others : goal.returns-clause-others
+returns-clause-others c =
+    let own = c.in_ok-place.ensures in
+    others-stay c.args.phase c.in_ok-place.place c.args.self.now.each c.own_place.new.self.each c.self.inside.each.items c.set_drain.new.self own.place (ap (λ (o : ObjectionsValue). o.each) c.self.view_is) own.own own.nodes

@@ -1,0 +1,6 @@
+use Rattle.world_state.proofs.Common.{List, None, map, reverse, take, ◌++◌, Command, verbosity_command, IsReportState}
+use Rattle.world_state.proofs.report_state.set_verbosities.Given as goal
+
+-- those so far are set
+abbrev pub invariant-loop-setting : goal.invariant-loop-setting
+invariant-loop-setting l = (commands : List Command) → IsReportState commands None l.initial.report_state → IsReportState (reverse (map verbosity_command (take l.setting-index l.given)) ++ commands) None l.report_state

@@ -1,2 +1,0 @@
-pub mod Connectings
-pub mod Ports

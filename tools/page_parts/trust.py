@@ -90,7 +90,12 @@ def follow(module, word, reached):
     elif not (CRATES / crate).is_dir():
         reached.add((module.removeprefix("Rattle."), word))  # a word of the kit
     elif rest[1] != "declared":
-        reach(SOURCES[CRATES / crate / "specs" / ("/".join(rest[1:]) + ".antt")], word, reached)
+        path = CRATES / crate / "specs" / ("/".join(rest[1:]) + ".antt")
+        if path in SOURCES:
+            reach(SOURCES[path], word, reached)
+        else:  # the crate passes on a module of another
+            passed = re.search(rf"^pub use (Rattle\.[\w.]+\.{rest[1]})$", SOURCES[CRATES / crate / "specs/Lib.antt"].text, re.M)
+            follow(passed[1], word, reached)
     elif {word, rest[-1]} & {"TheVariants", "TheInside", rest[3]}:
         reach(SOURCES[CRATES / crate / "src" / (rest[2] + ".rt")], rest[3], reached)
 

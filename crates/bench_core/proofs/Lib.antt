@@ -1,3 +1,3 @@
-pub mod Turns
+pub mod NextTurns
 pub mod Shown
 pub mod Serving

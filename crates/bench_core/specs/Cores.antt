@@ -1,12 +1,12 @@
 -- The value of a core in contracts, and what its functions return and change.
 use Rattle.rand_core.specs.Stream.{Stream, next_u64}
-use Rattle.std.specs.Prelude.{◌≡◌, ◌<◌, ◌≤◌, ℕ, Bool, true, false, List, ◌∷◌, ◌++◌, length, [], Option, Some, None, Result, Ok, Err, IsSome, unwrap_or}
+use Rattle.std.specs.Prelude.{◌≡◌, ◌<◌, ◌≤◌, ℕ, Bool, true, false, List, ◌∷◌, ◌++◌, length, [], Option, Some, None, Result, Ok, Err, IsSome, unwrap_or, if◌then◌else◌}
 use Rattle.uvm_object.specs.declared.entries.Origin.{Origin}
 use Rattle.uvm_acts.specs.declared.acts.Who.{Who}
 use Rattle.uvm_acts.specs.declared.acts.Call.{Call}
 use Rattle.uvm_acts.specs.declared.acts.Act.{Act}
 use Rattle.uvm_object.specs.declared.entries.Entry.{Entry}
-use Rattle.uvm_object.specs.declared.entries.Entry.TheVariants.{Granted, Heard}
+use Rattle.uvm_object.specs.declared.entries.Entry.TheVariants.{Granted}
 use Rattle.uvm_lines.specs.Lines.{entry_line}
 use Rattle.bench_script.specs.Scripts.{ScriptValue}
 use Rattle.bench_history.specs.Limits.{log_limit}
@@ -19,23 +19,11 @@ use Rattle.bench_core.specs.declared.cores.Health.{Health}
 use Rattle.bench_core.specs.declared.cores.Health.TheVariants.{Good, Full, Broken}
 use Rattle.bench_history.specs.Cases as next
 use Rattle.bench_history.specs.Next.{Allows, IsNext, next_of, need_in}
+pub use Rattle.bench_core.specs.Worlds.{Standing, Nothing, Needed, Asked, answer_in, call_of, need_of}
 use Rattle.bench_core.specs.Worlds.{WorldValue, world_after}
-use Rattle.bench_core.specs.declared.next_actions.PendingCall.{PendingCall}
 use Rattle.bench_core.specs.declared.cores.Turn as turn
 use Rattle.bench_core.specs.declared.faults.CoreFault.{CoreFault}
 use Rattle.bench_core.specs.declared.faults.CoreFault.TheVariants.{Memory, LogFull, Failed, NoTest}
-
--- the open request of a core: none; for an object; or for the answer of a component or sequence to a call, whose origin is given if it has one
-pub data Standing : Type 0 where
-  Nothing : Standing
-  Needed : (need : Need) → Standing
-  Asked : (hearer : Who) → (call : Call) → (origin : Option Origin) → Standing
-
--- the open request: the object for which an action waits, otherwise the pending call
-abbrev pub standing_of : Option Need → Option PendingCall → Standing
-standing_of (Some need) pending_call = Needed need
-standing_of None (Some pending_call) = Asked pending_call.who pending_call.call pending_call.origin
-standing_of None None = Nothing
 
 -- the value of a core: the script, the log (newest entry first), the open request, the core's health, and the ended sequences not yet reported
 pub record CoreValue : Type 0 where
@@ -74,16 +62,19 @@ abbrev pub AsksSomething : Standing → Type 0
 AsksSomething Nothing = ⊥
 AsksSomething standing = Unit {0}
 
--- if no allocation failed, the world is consistent. At most one request is open, and it is what comes next; then the core has not failed,
--- and the log is not full. A core that has failed or has an open request has reported all ended sequences
-pub record IsCore (world : WorldValue) (pending_call : Option PendingCall) (health : Health) (leaving : List Who) : Type 0 where
+-- the health of a core, by whether its world is consistent, and whether it has failed with a full log
+abbrev pub health_of : Bool → Bool → Health
+health_of sound full = if sound then (if full then Full else Good) else Broken
+
+-- the open request is what comes next; then the core has not failed, and the log is not full. A core that has failed or has an open request
+-- has reported all ended sequences
+pub record IsCore (world : WorldValue) (health : Health) (leaving : List Who) : Type 0 where
   pub sound : is_sound health ≡ true → world.sound ≡ true
-  pub comes : IsAskedNext (standing_of world.pending pending_call) (next_of world.script world.history)
-  pub one : IsSome world.pending → pending_call ≡ None
-  pub room : AsksSomething (standing_of world.pending pending_call) → length world.history < log_limit world.script
-  pub none : is_good health ≡ false → standing_of world.pending pending_call ≡ Nothing
+  pub comes : IsAskedNext world.standing (next_of world.script world.history)
+  pub room : AsksSomething world.standing → length world.history < log_limit world.script
+  pub none : is_good health ≡ false → world.standing ≡ Nothing
   pub all_told : is_good health ≡ false → leaving ≡ []
-  pub told_first : AsksSomething (standing_of world.pending pending_call) → leaving ≡ []
+  pub told_first : AsksSomething world.standing → leaving ≡ []
 
 -- the new world has one more entry, which may come next in the old one
 abbrev pub HasEntered : WorldValue → WorldValue → Type 0
@@ -181,23 +172,6 @@ abbrev pub IsAsk : Option turn.Turn → Type 0
 IsAsk (Some (turn.TheVariants.Ask hearer)) = Unit {0}
 IsAsk (Some other) = ⊥
 IsAsk None = ⊥
-
--- the call of the open request, if that is for an answer
-abbrev pub call_of : Standing → Option Call
-call_of Nothing = None
-call_of (Needed need) = None
-call_of (Asked hearer call origin) = Some call
-
--- the object of the open request, if that is for an object
-abbrev pub need_of : Standing → Option Need
-need_of (Needed need) = Some need
-need_of standing = None
-
--- the entry that answers the open request with these actions, if it is for an answer
-abbrev pub answer_in : Standing → List Act → Option Entry
-answer_in Nothing acts = None
-answer_in (Needed need) acts = None
-answer_in (Asked hearer call origin) acts = Some (Heard hearer origin call acts)
 
 -- the line of the newest entry if tracing is on, otherwise the empty text
 abbrev pub last_line : Bool → List Entry → List ℕ

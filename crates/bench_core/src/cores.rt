@@ -1,6 +1,6 @@
 //! The core of a testbench.
 
-ghost use Rattle.std.specs.Prelude.{◌≡◌, ◌≢◌, ◌<◌, ◌∷◌, [], true, false, OnOk, OnErr, IfOk, IfErr, IfSome, IfNone, IsSome, is_some, Some, None, ◌&&◌, length, ◌++◌, nat_lt, if◌then◌else◌, option_map};
+ghost use Rattle.std.specs.Prelude.{◌≡◌, ◌≢◌, ◌<◌, ◌∷◌, [], true, false, OnOk, OnErr, IfOk, IfErr, IfSome, IfNone, IsSome, is_some, Some, None, ◌&&◌, length, ◌++◌, nat_lt, if◌then◌else◌, not, option_map};
 ghost use Rattle.std.specs.Bool.{OnTrue, OnFalse};
 ghost use Rattle.std.specs.Option.{option_copied};
 ghost use Rattle.uvm_tree.specs.Nodes.{node_at, number_at};
@@ -23,13 +23,14 @@ ghost use Rattle.uvm_lines.specs.Lines.{who_text};
 ghost use Rattle.bench_history.specs.Next.{next_of, made_in, declined_in, IsLegal};
 ghost use Rattle.bench_history.specs.Cases as comes;
 ghost use Rattle.bench_history.specs.Laws.{IsSomething};
-ghost use Rattle.bench_core.specs.Cores.{DrawsOne, HasEntered, IsDrawing, IsDrawn, IsNextTurn, IsToldTurn, IsTurn, drawn_by, word_in, IsUnmade, core_after, failed_from, is_sound, turn_of, need_of, answer_in, turn_after, call_of, IsAsk, AsksSomething, AsksThere, last_line, last_text};
+ghost use Rattle.bench_core.specs.Cores.{DrawsOne, HasEntered, IsDrawing, IsDrawn, IsNextTurn, IsToldTurn, IsTurn, drawn_by, word_in, IsUnmade, core_after, failed_from, is_sound, turn_of, need_of, answer_in, is_good, turn_after, call_of, IsAsk, AsksSomething, AsksThere, last_line, last_text};
 ghost use Rattle.bench_core.specs.Worlds.{broken, made_who};
 ghost use Rattle.bench_core.specs.NextActions.{IsNextAction};
 ghost use Rattle.bench_core.specs.Cores.{Nothing, IsRequest};
 
 use crate::faults::CoreFault;
-use crate::{NextAction, PendingCall, World, choose, next, report_lines, services, status};
+use crate::next_actions::{NextAction, choose};
+use crate::{World, next, report_lines, services, status};
 use bench_history::{Need, laws};
 use bench_script::Script;
 use rand_core::Rng;
@@ -79,8 +80,8 @@ pub enum Health {
 #[derive(Drop)]
 pub struct Core {
     world: World,
-    pending_call: Option<PendingCall>,
-    health: Health,
+    // Whether the core has failed with a full log.
+    full: bool,
     // How many of the sequences that the newest entry has ended were reported.
     told: usize,
 }
@@ -88,13 +89,13 @@ pub struct Core {
 impl Model for Core {
     ghost use Rattle.std.specs.Prelude.{drop};
     ghost use Rattle.bench_history.specs.Sequences.{leaving_of};
-    ghost use Rattle.bench_core.specs.Cores.{CoreValue, IsCore, standing_of};
+    ghost use Rattle.bench_core.specs.Cores.{CoreValue, IsCore, health_of};
 
     ghost Value = { CoreValue };
 
-    ghost view = { λ c. record { script = c.world.script; history = c.world.history; standing = standing_of c.world.pending c.pending_call; health = c.health; leaving = drop c.told (leaving_of c.world.history) } };
+    ghost view = { λ c. record { script = c.world.script; history = c.world.history; standing = c.world.standing; health = health_of c.world.sound c.full; leaving = drop c.told (leaving_of c.world.history) } };
 
-    ghost invariant = { λ c. IsCore c.world c.pending_call c.health (drop c.told (leaving_of c.world.history)) };
+    ghost invariant = { λ c. IsCore c.world (health_of c.world.sound c.full) (drop c.told (leaving_of c.world.history)) };
 }
 
 impl Core {
@@ -109,8 +110,7 @@ impl Core {
         match World::new(alloc, script) {
             Ok(world) => Ok(Core {
                 world,
-                pending_call: None,
-                health: Health::Good,
+                full: false,
                 told: 0,
             }),
             Err(_) => Err(CoreFault::Memory),
@@ -140,7 +140,7 @@ impl Core {
     pub fn turn(&self) -> Option<Turn>
         ensures { result ≡ turn_of self.now.standing }
     {
-        match (self.world.need(), &self.pending_call) {
+        match (self.world.need(), self.world.pending_call()) {
             (Some(_), _) => Some(Turn::Need),
             (None, Some(pending_call)) => Some(Turn::Ask {
                 who: pending_call.who,
@@ -153,10 +153,7 @@ impl Core {
     pub fn call(&self) -> Option<&Call>
         ensures { option_copied result ≡ call_of self.now.standing }
     {
-        match (self.world.need(), &self.pending_call) {
-            (None, Some(pending_call)) => Some(&pending_call.call),
-            _ => None,
-        }
+        Some(&self.world.pending_call()?.call)
     }
 
     /// Returns the object that is needed, or `None` if none is.
@@ -195,25 +192,12 @@ impl Core {
         ensures ok { OnOk result (IfSome (answer_in self.old.standing acts) (λ entry. self.new ≡ core_after entry self.old)) }
         ensures err { IfErr result (λ fault. (fault ≡ CoreFault.Memory) × (self.new ≡ failed_from Health.Broken self.old)) }
     {
-        let Some(pending_call) = &self.pending_call else {
-            unreachable!()
-        };
-        let entered = self.world.heard(
-            pending_call.who,
-            &pending_call.call,
-            pending_call.origin,
-            acts,
-        );
-        self.pending_call = None;
-        match entered {
+        match self.world.heard(acts) {
             Ok(()) => {
                 self.told = 0;
                 Ok(())
             }
-            Err(_) => {
-                self.health = Health::Broken;
-                Err(CoreFault::Memory)
-            }
+            Err(_) => Err(CoreFault::Memory),
         }
     }
 
@@ -393,9 +377,30 @@ impl Core {
     fn is_sound(&self) -> bool
         ensures { result ≡ is_sound self.now.health }
     {
-        match self.health {
+        match self.health() {
             Health::Good | Health::Full => true,
             Health::Broken => false,
+        }
+    }
+
+    /// Returns whether the core has failed.
+    pub fn has_failed(&self) -> bool
+        ensures { result ≡ not (is_good self.now.health) }
+    {
+        match self.health() {
+            Health::Good => false,
+            Health::Full | Health::Broken => true,
+        }
+    }
+
+    // Returns the health of the core.
+    fn health(&self) -> Health
+        ensures { result ≡ self.now.health }
+    {
+        match (self.world.sound(), self.full) {
+            (true, false) => Health::Good,
+            (true, true) => Health::Full,
+            (false, _) => Health::Broken,
         }
     }
 
@@ -405,7 +410,7 @@ impl Core {
         ensures some { IfSome result (λ who. self.old.leaving ≡ who ∷ self.new.leaving) }
         ensures rest { self.new ≡ record self.old { leaving = self.new.leaving } }
     {
-        let Health::Good = self.health else {
+        let Health::Good = self.health() else {
             return None;
         };
         let who = self.world.leaving().get(self.told)?.copy();
@@ -423,13 +428,13 @@ impl Core {
         ensures words { IsDrawing R.stream (drawn_by self.new.history) result words.old words.new }
     {
         // The log is legal, so the component or sequence that is called exists, and a run goes on to its end.
-        let _log = self.log();
+        let _log = self.world.log();
         laws::asked_are_there();
         laws::something_before_over();
         if let Some(turn) = self.turn() {
             return Ok(turn);
         }
-        match self.health {
+        match self.health() {
             Health::Good => self.go_on(words),
             Health::Full | Health::Broken => Err(CoreFault::Failed),
         }
@@ -447,7 +452,7 @@ impl Core {
             return Ok(Turn::Over);
         }
         if self.world.is_full() {
-            self.health = Health::Full;
+            self.full = true;
             return Err(CoreFault::LogFull);
         }
         match self.advance(words) {
@@ -472,8 +477,7 @@ impl Core {
         ensures words { IfOk result (λ made. IsDrawn R.stream (drawn_by self.new.history (turn_after made self.new.standing)) words.old words.new) }
         ensures lost { OnErr result (DrawsOne R.stream words.old words.new) }
     {
-        self.health = Health::Broken;
-        let made = match choose(&mut self.world, &mut self.pending_call)? {
+        let made = match choose(&mut self.world)? {
             NextAction::Nothing => Some(Turn::Over),
             NextAction::Enter(kernel_entry) => {
                 self.world.enter(kernel_entry)?;
@@ -501,7 +505,6 @@ impl Core {
             }
             NextAction::Ask => None,
         };
-        self.health = Health::Good;
         Ok(made)
     }
 }
@@ -511,10 +514,10 @@ impl Core {
 fn pass(world: &mut World) -> Result<(), AllocError>
     requires sound { world.old.sound ≡ true }
     requires room { length world.old.history < log_limit world.old.script }
-    requires next { IsNextAction (next_of world.old.script world.old.history) None NextAction.Pass }
+    requires next { IsNextAction (next_of world.old.script world.old.history) Nothing NextAction.Pass }
     ensures entered { OnOk result (HasEntered world.old world.new) }
     ensures sound { OnOk result (world.new.sound ≡ true) }
-    ensures settled { OnOk result (world.new.pending ≡ None) }
+    ensures settled { OnOk result (world.new.standing ≡ Nothing) }
     ensures err { OnErr result (world.new ≡ broken world.old) }
 {
     // It is the first FIFO at which a request that waits can complete.
@@ -535,10 +538,10 @@ fn grant<R: Rng>(
 ) -> Result<(), AllocError>
     requires sound { world.old.sound ≡ true }
     requires room { length world.old.history < log_limit world.old.script }
-    requires next { IsNextAction (next_of world.old.script world.old.history) None (NextAction.Grant sequencer drawn) }
+    requires next { IsNextAction (next_of world.old.script world.old.history) Nothing (NextAction.Grant sequencer drawn) }
     ensures entered { OnOk result (HasEntered world.old world.new) }
     ensures sound { OnOk result (world.new.sound ≡ true) }
-    ensures settled { OnOk result (world.new.pending ≡ None) }
+    ensures settled { OnOk result (world.new.standing ≡ Nothing) }
     ensures words { OnOk result (IsDrawn R.stream (word_in world.new.history) words.old words.new) }
     ensures err { OnErr result (world.new ≡ broken world.old) }
     ensures lost { OnErr result (DrawsOne R.stream words.old words.new) }

@@ -3,11 +3,9 @@
 
 mod cores;
 mod faults;
-pub mod laws;
 mod next_actions;
 
-pub use bench_history::Need;
+pub use bench_history::{Need, legal_logs as laws};
 pub use cores::{Core, Health, Turn};
 pub use faults::CoreFault;
-pub use next_actions::{NextAction, PendingCall, choose};
 pub use world_views::{World, next, report_lines, services, status};

@@ -1,6 +1,6 @@
 //! The choice of the next action of the kernel.
 
-ghost use Rattle.std.specs.Prelude.{◌≡◌, true, [], ◌∷◌, None, Some, IfOk, OnErr, if◌then◌else◌};
+ghost use Rattle.std.specs.Prelude.{◌≡◌, true, [], ◌∷◌, None, Some, IfOk, OnOk, OnErr, if◌then◌else◌};
 ghost use Rattle.uvm_object.specs.declared.entries.Entry.TheVariants.{End};
 ghost use Rattle.bench_history.specs.Dues.{first_due};
 ghost use Rattle.uvm_acts.specs.declared.acts.Call.TheVariants as call;
@@ -11,6 +11,8 @@ ghost use Rattle.bench_history.specs.Laws.{is_at_check};
 ghost use Rattle.bench_history.specs.Next.{first_next, next_of};
 ghost use Rattle.world_entries.specs.KernelEntries.{entry_of};
 ghost use Rattle.bench_core.specs.NextActions.{IsNextAction};
+ghost use Rattle.bench_core.specs.Worlds as request;
+ghost use Rattle.bench_core.specs.Worlds.{broken};
 
 use bench_history::{EventTarget, RunStage};
 use std::alloc::AllocError;
@@ -18,7 +20,7 @@ use uvm_object::{Call, EventCall, Fatal, Origin, Reason, Who};
 use uvm_phase::{Due, Phase, Schedule};
 use uvm_tree::NodeId;
 use world_entries::kernel_entries::KernelEntry;
-use world_views::{World, next, services, status};
+use world_views::{PendingCall, World, next, services, status};
 
 /// The next action of the kernel.
 #[derive(Drop)]
@@ -37,30 +39,16 @@ pub enum NextAction {
     Ask,
 }
 
-/// A call that is not answered yet. It was scheduled with an origin, or is the call of a phase.
-#[derive(Drop)]
-pub struct PendingCall {
-    /// The component or sequence that is to answer.
-    pub who: Who,
-    /// The call.
-    pub call: Call,
-    /// The cause of the call and its phase. `None` for the call of a phase.
-    pub origin: Option<Origin>,
-}
-
-/// Returns the next action of the kernel. Stores the pending call if the action is `Ask`, and `None` otherwise. Requires a consistent
-/// world. Errors: out of memory; the world is unchanged, and there is no pending call.
+/// Returns the next action of the kernel. Asks the world for an answer if the action is `Ask`. Requires a consistent world without an open
+/// request. Errors: out of memory; the log is unchanged, and the world is no longer consistent.
 #[tactic(auto, unfolding(bench_history::specs::Next::next_of))]
-pub fn choose(
-    world: &mut World,
-    pending_call: &mut Option<PendingCall>,
-) -> Result<NextAction, AllocError>
+pub fn choose(world: &mut World) -> Result<NextAction, AllocError>
     requires sound { world.old.sound ≡ true }
-    ensures choice { IfOk result (IsNextAction (next_of world.old.script world.old.history) pending_call.new) }
-    ensures err { OnErr result (pending_call.new ≡ None) }
-    ensures unchanged { world.new ≡ world.old }
+    requires standing { world.old.standing ≡ request.Nothing }
+    ensures choice { IfOk result (IsNextAction (next_of world.old.script world.old.history) world.new.standing) }
+    ensures after { OnOk result (world.new ≡ record world.old { standing = world.new.standing }) }
+    ensures err { OnErr result (world.new ≡ broken world.old) }
 {
-    *pending_call = None;
     let stage = status::stage(world);
     if let RunStage::Ended = stage {
         return Ok(NextAction::Nothing);
@@ -86,13 +74,14 @@ pub fn choose(
         _ => return Ok(NextAction::Act),
     }
     if let Some(due) = next::due_now(world) {
-        return Ok(happening(due, pending_call));
+        let (target, call, origin) = (due.owner, due.notice.call(), origin_of(due));
+        return Ok(happening(world, target, call, origin));
     }
     if let Some(phase) = next_begin(world.script().has_runtime(), stage) {
         return Ok(NextAction::Enter(KernelEntry::Begin(phase)));
     }
     if let Some((node, phase)) = next::next_turn(world) {
-        return Ok(in_turn(node, phase, pending_call));
+        return Ok(in_turn(world, node, phase));
     }
     match status::phase(world) {
         Some(phase) => Ok(NextAction::Enter(done(world, phase)?)),
@@ -122,7 +111,8 @@ fn done(world: &mut World, phase: Phase) -> Result<KernelEntry, AllocError>
     requires sound { world.old.sound ≡ true }
     requires at_check { phase ≡ Phase.Connect → is_at_check world.old.script world.old.history ≡ true }
     ensures kernel_entry { IfOk result (λ kernel_entry. first_next (port_check world.old.history (Some phase) ∷ phase_end world.old.script world.old.history (Some phase) ∷ []) ≡ Exactly (entry_of kernel_entry)) }
-    ensures unchanged { world.new ≡ world.old }
+    ensures unchanged { OnOk result (world.new ≡ world.old) }
+    ensures err { OnErr result (world.new ≡ broken world.old) }
 {
     if let Phase::Connect = phase
         && let Some((port, fatal)) = world.next_unsound()?
@@ -132,34 +122,32 @@ fn done(world: &mut World, phase: Phase) -> Result<KernelEntry, AllocError>
     Ok(ending(world, phase))
 }
 
-// Makes the call of a phase to a component the pending call.
-fn in_turn(node: NodeId, phase: Phase, pending_call: &mut Option<PendingCall>) -> NextAction
-    ensures { IsNextAction (Answer (who.Node node) (call.Phase phase) None) pending_call.new result }
+// Returns the cause of an event and its phase.
+fn origin_of(due: &Due<EventTarget, EventCall>) -> Origin
+    ensures { result ≡ origin_of due.now }
 {
-    *pending_call = Some(PendingCall {
-        who: Who::Node(node),
-        call: Call::Phase(phase),
-        origin: None,
-    });
-    NextAction::Ask
-}
-
-// Makes the call of a due event to its target the pending call, or returns the end of its drain.
-fn happening(
-    due: &Due<EventTarget, EventCall>,
-    pending_call: &mut Option<PendingCall>,
-) -> NextAction
-    requires { pending_call.old ≡ None }
-    ensures { IsNextAction (by_call due.now.owner due.now.notice (origin_of due.now)) pending_call.new result }
-{
-    let who = due.owner.who();
-    let origin = Origin {
+    Origin {
         cause: due.cause,
         phase: due.phase,
-    };
-    match due.notice.call() {
+    }
+}
+
+// Asks the target of an event for the answer to its call, or returns the end of a drain if the event has no call.
+fn happening(
+    world: &mut World,
+    target: EventTarget,
+    call: Option<Call>,
+    origin: Origin,
+) -> NextAction
+    requires sound { world.old.sound ≡ true }
+    requires standing { world.old.standing ≡ request.Nothing }
+    ensures action { IsNextAction (by_call target call origin) world.new.standing result }
+    ensures after { world.new ≡ record world.old { standing = world.new.standing } }
+{
+    let who = target.who();
+    match call {
         Some(call) => {
-            *pending_call = Some(PendingCall {
+            world.ask(PendingCall {
                 who,
                 call,
                 origin: Some(origin),
@@ -168,6 +156,20 @@ fn happening(
         }
         None => NextAction::Enter(KernelEntry::Drained(who.node(), origin)),
     }
+}
+
+// Asks a component for the answer to the call of a phase.
+fn in_turn(world: &mut World, node: NodeId, phase: Phase) -> NextAction
+    requires { world.old.sound ≡ true }
+    ensures action { IsNextAction (Answer (who.Node node) (call.Phase phase) None) world.new.standing result }
+    ensures after { world.new ≡ record world.old { standing = world.new.standing } }
+{
+    world.ask(PendingCall {
+        who: Who::Node(node),
+        call: Call::Phase(phase),
+        origin: None,
+    });
+    NextAction::Ask
 }
 
 // Returns the entry that ends the phase, or that lets time pass while an objection prevents the end.

@@ -1,24 +1,14 @@
 -- Who waits at FIFOs, and who owns imps, are components.
-use Rattle.bench_history.proofs.Common.{◌≡◌, ℕ, suc, zero, ◌<◌, ◌==◌, ◌⊎◌, inl, inr, nat_eq, Bool, true, false, not, ◌&&◌, List, [], ◌∷◌, ◌++◌, length, map, filter, Option, Some, None, option_map, option_and_then, IfSome, refl, arith, if◌then◌else◌, cons_option, list_any, nat_tests, All-nil, All-cons, All-head, All-tail, All-push, All-filter, All-weaker, filter_passes, first_given, Phase, same_phase, under_at, path_order, PortKind, Move, MoveKind, Item, next_move, WiringValue, node_of, Who, Act, Add, Outcome, Done, Passage, Entry, ScriptValue, Requester, FifoPort, nodes_of, nodes_after, test_creation, act_phase, ended_of, wiring_of, wiring_after, with_both, end_of, fifo_size, is_imp_at, fifo_port_below, IsComponent, DueCall, written_to, call_in, is_open_to, FifoState, with_last, request_by, request_at, answered_at, is_put, is_no_put, puts_asked, takes_asked, puts_waiting, takes_waiting, is_waiting, fifo_state_of, first_requester, passage_by, passage_in, passing_at, next_passed, slice_get, length-append, All, Contains, filter_map, Node}
-use Rattle.uvm_tlm.specs.declared.fifos.MoveKind.TheVariants as move
+use Rattle.bench_history.proofs.Common.{◌≡◌, ℕ, suc, zero, ◌<◌, ◌==◌, ◌⊎◌, inl, inr, nat_eq, Bool, true, false, not, ◌&&◌, List, [], ◌∷◌, ◌++◌, length, map, filter, Option, Some, None, option_map, option_and_then, IfSome, refl, arith, if◌then◌else◌, cons_option, list_any, nat_tests, All-nil, All-cons, All-head, All-tail, All-push, All-filter, All-weaker, filter_passes, first_given, Phase, same_phase, under_at, path_order, PortKind, Item, first_put, has_room, next_move, WiringValue, node_of, Who, Act, Add, Outcome, Done, Passage, Entry, ScriptValue, FifoPort, nodes_of, nodes_after, test_creation, act_phase, ended_of, wiring_of, wiring_after, with_both, end_of, fifo_size, is_imp_at, fifo_port_below, IsComponent, DueCall, written_to, call_in, is_open_to, with_last, request_by, request_at, answered_at, is_put, is_no_put, puts_asked, takes_asked, puts_waiting, takes_waiting, is_waiting, waiting_put, fifo_items, fifo_state_with, fifo_state_of, passage_by, passage_in, passing_at, next_passed, slice_get, length-append, All, Contains, filter_map, Node}
 use Rattle.uvm_acts.specs.declared.acts.Who.TheVariants as who
 use Rattle.uvm_acts.specs.declared.acts.Call.TheVariants as call
 use Rattle.uvm_acts.specs.declared.acts.Act.TheVariants.{Connect}
 use Rattle.bench_history.specs.Passing.{Request}
 
--- what holds of each element holds of the first
-pub head-holds : {A : Type 0} (P : A → Type 0) (xs : List A) → All P xs → IfSome (slice_get xs 0) P
-head-holds P [] all = tt
-head-holds P (x ∷ xs) all = All-head P x xs all
-
--- and of one more behind them
+-- what holds of each element and of one more holds of all
 last-holds : {A : Type 0} (P : A → Type 0) (xs : List A) (last : Option A) → All P xs → IfSome last P → All P (with_last xs last)
 last-holds P xs None all holds = all
 last-holds P xs (Some x) all holds = All-push P xs x all holds
-
-then-holds : {A B : Type 0} (f : A → Option B) (P : B → Type 0) (found : Option A) → ((x : A) → IfSome (f x) P) → IfSome (option_and_then f found) P
-then-holds f P None each = tt
-then-holds f P (Some x) each = each x
 
 cons-holds : {A : Type 0} (P : A → Type 0) (first : Option A) (xs : List A) → IfSome first P → All P xs → All P (cons_option first xs)
 cons-holds P None xs holds all = all
@@ -42,7 +32,7 @@ module _ {Payload : Type 0} (Q : Who → Phase → Type 0) where
   request-holds fifo performer place wished (Some phase) None holds = tt
   request-holds fifo performer place wished (Some phase) (Some fifo_port) holds = tested (fifo_port.fifo == fifo)
     where
-      tested : (b : Bool) → IfSome (if b then Some (record { requester = record { place = place; who = performer; port = wished.0; phase = phase }; port = fifo_port.port; wish = wished.1 }) else None) IsAskedBy
+      tested : (b : Bool) → IfSome (if b then Some (record { requester = record { place = place; who = performer; port = wished.0; phase = phase }; wish = wished.1 }) else None) IsAskedBy
       tested true = holds phase refl
       tested false = tt
 
@@ -55,23 +45,20 @@ module _ {Payload : Type 0} (Q : Who → Phase → Type 0) where
   asked-more before fifo performer kind (Some wished) asked all (inr holds) =
       last-holds IsAskedBy asked (request_at before fifo performer kind wished) all (request-holds fifo performer (length before) wished (act_phase before) (fifo_port_below before performer kind wished.0) holds)
 
-  -- and each of those that wait is
-  requesters-hold : (requests : List (Request Payload)) → All IsAskedBy requests → All (λ requester. Q requester.who requester.phase) (map (λ request. request.requester) requests)
-  requesters-hold [] all = All-nil _
-  requesters-hold (request ∷ requests) all = All-cons (λ requester. Q requester.who requester.phase) _ _ (All-head IsAskedBy request requests all) (requesters-hold requests (All-tail IsAskedBy request requests all))
-
 -- what passes is that of one that had asked
 module _ (Q : Who → Phase → Type 0) where
-  requester-holds : (kind : MoveKind) (fifo_state : FifoState) → All (λ requester. Q requester.who requester.phase) fifo_state.putters → All (λ requester. Q requester.who requester.phase) fifo_state.takers → IfSome (first_requester kind fifo_state) (λ requester. Q requester.who requester.phase)
-  requester-holds move.Put fifo_state putters takers = head-holds (λ (requester : Requester). Q requester.who requester.phase) fifo_state.putters putters
-  requester-holds kind fifo_state putters takers = head-holds (λ (requester : Requester). Q requester.who requester.phase) fifo_state.takers takers
+  put-holds : (room : Bool) (puts : List (Request Item)) → All (IsAskedBy {Payload = Item} Q) puts → IfSome (option_map passage_by (if room then first_put (map waiting_put puts) else None)) (λ passage. Q passage.who passage.phase)
+  put-holds true [] all = tt
+  put-holds true (put ∷ puts) all = All-head (IsAskedBy {Payload = Item} Q) put puts all
+  put-holds false puts all = tt
 
-  passage-holds : (fifo_state : FifoState) → All (λ requester. Q requester.who requester.phase) fifo_state.putters → All (λ requester. Q requester.who requester.phase) fifo_state.takers → IfSome (passage_in fifo_state) (λ passage. Q passage.who passage.phase)
-  passage-holds fifo_state putters takers = then-holds (λ move. option_map (passage_by move) (first_requester move.kind fifo_state)) (λ (passage : Passage). Q passage.who passage.phase) (next_move fifo_state.fifo) (λ move. mapped move (first_requester move.kind fifo_state) (requester-holds move.kind fifo_state putters takers))
-    where
-      mapped : (move : Move) (requester : Option Requester) → IfSome requester (λ requester. Q requester.who requester.phase) → IfSome (option_map (passage_by move) requester) (λ passage. Q passage.who passage.phase)
-      mapped move None holds = tt
-      mapped move (Some requester) holds = holds
+  passage-holds :
+      (size : ℕ) (items : List Item) (puts : List (Request Item)) (takes : List (Request Bool)) → All (IsAskedBy {Payload = Item} Q) puts → All (IsAskedBy {Payload = Bool} Q) takes
+      → IfSome (passage_in (fifo_state_with size items puts takes)) (λ passage. Q passage.who passage.phase)
+  unfolding next_move
+  passage-holds size items puts [] put_all take_all = put-holds (has_room (fifo_state_with size items puts [])) puts put_all
+  passage-holds size [] puts (take ∷ takes) put_all take_all = put-holds (has_room (fifo_state_with size [] puts (take ∷ takes))) puts put_all
+  passage-holds size (item ∷ items) puts (take ∷ takes) put_all take_all = All-head (IsAskedBy {Payload = Bool} Q) take takes take_all
 
   pub passing-holds :
       (history : List Entry) → ((fifo : ℕ) → All (IsAskedBy {Payload = Item} Q) (puts_waiting history fifo)) → ((fifo : ℕ) → All (IsAskedBy {Payload = Bool} Q) (takes_waiting history fifo))
@@ -85,7 +72,7 @@ module _ (Q : Who → Phase → Type 0) where
 
       sized : (node : ℕ) (size : Option ℕ) → IfSome {T = ℕ × Passage} (option_map (λ (passage : Passage). (node, passage)) (option_and_then passage_in (option_map (fifo_state_of history node) size))) (λ passed. Q passed.1.who passed.1.phase)
       sized node None = tt
-      sized node (Some size) = found node (passage_in (fifo_state_of history node size)) (passage-holds (fifo_state_of history node size) (requesters-hold Q (puts_waiting history node) (puts node)) (requesters-hold Q (takes_waiting history node) (takes node)))
+      sized node (Some size) = found node (passage_in (fifo_state_of history node size)) (passage-holds size (fifo_items history node) (puts_waiting history node) (takes_waiting history node) (puts node) (takes node))
 
 -- what holds of all that was asked for holds of what waits
 module _ (Q : Who → Phase → Type 0) (history : List Entry) (fifo : ℕ) where

@@ -16,7 +16,7 @@ pub use Rattle.bench_history.specs.Next.{Allows, EachIsNext, IsAct, IsLegal, IsN
 unfoldable pub use Rattle.bench_history.specs.Next.{next_of}
 unfoldable pub use Rattle.bench_history.specs.Objections.{is_kept}
 pub use Rattle.bench_history.specs.Objections.{objections_of, stands, with_new}
-pub use Rattle.bench_history.specs.Passing.{FifoState, answered_at, first_requester, is_no_put, is_put, is_waiting, passage_by, passage_in, passing_at, put_in, puts_asked, puts_waiting, request_at, request_by, fifo_state_of, take_in, takes_asked, takes_waiting, with_last}
+pub use Rattle.bench_history.specs.Passing.{answered_at, fifo_items, fifo_state_with, is_no_put, is_put, is_waiting, passage_by, passage_in, passing_at, put_in, puts_asked, puts_waiting, request_at, request_by, fifo_state_of, take_in, takes_asked, takes_waiting, waiting_put, with_last}
 unfoldable pub use Rattle.bench_history.specs.Passing.{next_passed}
 pub use Rattle.bench_history.specs.Ports.{fifo_size, fifo_port_below, is_imp_at, outlets_below, port_below}
 unfoldable pub use Rattle.bench_history.specs.Ports.{imps_below}
@@ -31,7 +31,6 @@ pub use Rattle.bench_history.specs.declared.event_targets.EventTarget.TheVariant
 pub use Rattle.bench_history.specs.declared.event_targets.EventTarget.{EventTarget}
 pub use Rattle.bench_history.specs.declared.requesters.DriverPort.{DriverPort}
 pub use Rattle.bench_history.specs.declared.requesters.FifoPort.{FifoPort}
-pub use Rattle.bench_history.specs.declared.requesters.Requester.{Requester}
 pub use Rattle.bench_history.specs.declared.stages.RunStage.TheVariants.{After, Before, During, Ended}
 pub use Rattle.bench_history.specs.declared.stages.RunStage.{RunStage}
 pub use Rattle.bench_script.specs.Scripts.{ScriptValue}
@@ -94,11 +93,11 @@ pub use Rattle.uvm_sequencer.specs.declared.requests.Want.{Want}
 pub use Rattle.uvm_sequences.specs.Sequences.{is_under, numbered}
 pub use Rattle.uvm_sequences.specs.declared.starts.SeqStep.TheVariants.{Body, PostStart, PreStart}
 pub use Rattle.uvm_sequences.specs.declared.starts.SeqStep.{SeqStep}
-pub use Rattle.uvm_tlm.specs.Fifos.{next_move}
+pub use Rattle.uvm_tlm.specs.Fifos.{first_put, has_room}
+unfoldable pub use Rattle.uvm_tlm.specs.Fifos.{next_move}
 pub use Rattle.uvm_tlm.specs.Wirings.{WiringValue, targets_of}
 pub use Rattle.uvm_tlm.specs.declared.ends.PortKind.TheVariants.{Seq}
 pub use Rattle.uvm_tlm.specs.declared.ends.PortKind.{PortKind}
-pub use Rattle.uvm_tlm.specs.declared.fifos.Move.{Move}
 pub use Rattle.uvm_tlm.specs.declared.fifos.MoveKind.{MoveKind}
 pub use Rattle.uvm_tlm.specs.declared.items.Item.{Item}
 pub use Rattle.uvm_tree.specs.Cursors.{is_before, least, sooner}

@@ -242,4 +242,4 @@ requests_at history node = option_map_or (λ s. length s.queue) (sequencer_at hi
 
 -- how many requests wait at a node: at its FIFO or at its sequencer; 0 if it is neither
 abbrev pub waiters_at : List Entry → ℕ → ℕ
-waiters_at history node = option_map_or (λ fifo_state. waiting_count fifo_state.fifo) (fifo_state_at history node) (requests_at history node)
+waiters_at history node = option_map_or waiting_count (fifo_state_at history node) (requests_at history node)

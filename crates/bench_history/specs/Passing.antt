@@ -4,7 +4,7 @@ use Rattle.std.specs.List.{list_any}
 use Rattle.std.specs.Option.{option_map_or}
 use Rattle.uvm_glob.specs.Lists.{first_given}
 use Rattle.uvm_phase.specs.declared.phases.Phase.{Phase}
-use Rattle.uvm_phase.specs.Phases.{phase_number, same_phase}
+use Rattle.uvm_phase.specs.Phases.{same_phase}
 use Rattle.uvm_tree.specs.Sorted.{path_order}
 use Rattle.uvm_tlm.specs.declared.ends.PortKind.{PortKind}
 use Rattle.uvm_tlm.specs.declared.ends.PortKind.TheVariants as through
@@ -12,7 +12,6 @@ use Rattle.uvm_tlm.specs.declared.items.Item.{Item}
 use Rattle.uvm_tlm.specs.declared.fifos.Move.{Move}
 use Rattle.uvm_tlm.specs.declared.fifos.MoveKind.{MoveKind}
 use Rattle.uvm_tlm.specs.declared.fifos.MoveKind.TheVariants as move
-use Rattle.uvm_tlm.specs.declared.fifos.Owner.{Owner}
 use Rattle.uvm_tlm.specs.declared.fifos.WaitingPut.{WaitingPut}
 use Rattle.uvm_tlm.specs.declared.fifos.WaitingTake.{WaitingTake}
 use Rattle.uvm_tlm.specs.Fifos.{FifoValue, can_put, can_take, next_move}
@@ -35,11 +34,10 @@ abbrev pub with_last : {A : Type 0} → List A → Option A → List A
 with_last xs None = xs
 with_last xs (Some x) = xs ++ x ∷ []
 
--- a request for a put, a take or a peek: its requester, the node of its port, and its payload. The payload of a put is the item; that of a
--- take or a peek is whether it is a peek
+-- a request for a put, a take or a peek: its requester and its payload. The payload of a put is the item; that of a take or a peek is whether it
+-- is a peek
 pub record Request (Payload : Type 0) : Type 0 where
   pub requester : Requester
-  pub port : ℕ
   pub wish : Payload
 
 -- the name of the port through which an action asks for a put, and the item
@@ -60,7 +58,7 @@ leads_to fifo fifo_port = option_map_or (λ fifo_port. fifo_port.fifo == fifo) f
 -- the request that is made at a FIFO in a phase, if the port leads to this FIFO
 abbrev pub request_by : {Payload : Type 0} → ℕ → Who → ℕ → List ℕ × Payload → Option Phase → Option FifoPort → Option (Request Payload)
 request_by fifo performer place wished (Some phase) (Some fifo_port) =
-    if fifo_port.fifo == fifo then Some (record { requester = record { place = place; who = performer; port = wished.0; phase = phase }; port = fifo_port.port; wish = wished.1 }) else None
+    if fifo_port.fifo == fifo then Some (record { requester = record { place = place; who = performer; port = wished.0; phase = phase }; wish = wished.1 }) else None
 request_by fifo performer place wished phase fifo_port = None
 
 -- the request that the next action makes at a FIFO, if its port leads there
@@ -140,52 +138,33 @@ items_left (entry ∷ before) fifo = items_left before fifo
 abbrev pub fifo_items : List Entry → ℕ → List Item
 fifo_items history fifo = drop (items_left history fifo) (items_entered history fifo)
 
--- the state of a FIFO: its items and waits, the requesters of the puts that wait, and those of the takes and peeks, each in order of arrival
-pub record FifoState : Type 0 where
-  pub fifo : FifoValue
-  pub putters : List Requester
-  pub takers : List Requester
-
--- the owner of a request, as a FIFO stores it: the node of the port and the number of the phase
-abbrev pub owner_of : {Payload : Type 0} → Request Payload → Owner
-owner_of request = record { node = request.port; phase = phase_number request.requester.phase }
-
 -- a put that waits, as a FIFO stores it
-abbrev pub waiting_put : Request Item → WaitingPut
-waiting_put request = record { owner = owner_of request; item = request.wish }
+abbrev pub waiting_put : Request Item → WaitingPut Requester
+waiting_put request = record { owner = request.requester; item = request.wish }
 
 -- a take or a peek that waits, as a FIFO stores it
-abbrev pub waiting_take : Request Bool → WaitingTake
-waiting_take request = record { owner = owner_of request; peeks = request.wish }
+abbrev pub waiting_take : Request Bool → WaitingTake Requester
+waiting_take request = record { owner = request.requester; peeks = request.wish }
 
 -- the state of a FIFO of a size with these items and these requests that wait
-abbrev pub fifo_state_with : ℕ → List Item → List (Request Item) → List (Request Bool) → FifoState
-fifo_state_with size items puts takes = record {
-  fifo = record { size = size; items = items; puts = map waiting_put puts; takes = map waiting_take takes };
-  putters = map (λ request. request.requester) puts;
-  takers = map (λ request. request.requester) takes;
-}
+abbrev pub fifo_state_with : ℕ → List Item → List (Request Item) → List (Request Bool) → FifoValue Requester
+fifo_state_with size items puts takes = record { size = size; items = items; puts = map waiting_put puts; takes = map waiting_take takes }
 
 -- the state of the FIFO of a size at a node
-abbrev pub fifo_state_of : List Entry → ℕ → ℕ → FifoState
+abbrev pub fifo_state_of : List Entry → ℕ → ℕ → FifoValue Requester
 fifo_state_of history node size = fifo_state_with size (fifo_items history node) (puts_waiting history node) (takes_waiting history node)
 
 -- the state of the FIFO at a node according to the log, if there is one
-abbrev pub fifo_state_at : List Entry → ℕ → Option FifoState
+abbrev pub fifo_state_at : List Entry → ℕ → Option (FifoValue Requester)
 fifo_state_at history node = option_map (fifo_state_of history node) (fifo_size (wiring_of history) node)
 
--- the requester of the next move of a kind
-abbrev pub first_requester : MoveKind → FifoState → Option Requester
-first_requester move.Put fifo_state = slice_get fifo_state.putters 0
-first_requester kind fifo_state = slice_get fifo_state.takers 0
-
 -- a move at a FIFO as a transfer, with the data of the request that it answers
-abbrev pub passage_by : Move → Requester → Passage
-passage_by move requester = record { kind = move.kind; who = requester.who; port = requester.port; item = move.item; request = requester.place; phase = requester.phase }
+abbrev pub passage_by : Move Requester → Passage
+passage_by move = record { kind = move.kind; who = move.owner.who; port = move.owner.port; item = move.item; request = move.owner.place; phase = move.owner.phase }
 
 -- the next transfer at a FIFO
-abbrev pub passage_in : FifoState → Option Passage
-passage_in fifo_state = option_and_then (λ move. option_map (passage_by move) (first_requester move.kind fifo_state)) (next_move fifo_state.fifo)
+abbrev pub passage_in : FifoValue Requester → Option Passage
+passage_in fifo_state = option_map passage_by (next_move fifo_state)
 
 -- the next transfer at the FIFO of a node, with the node
 abbrev pub passing_at : List Entry → ℕ → Option (ℕ × Passage)
@@ -196,13 +175,13 @@ unfoldable pub next_passed : List Entry → Option (ℕ × Passage)
 next_passed history = first_given (map (passing_at history) (path_order (nodes_of history)))
 
 -- the state of the FIFO that a performer reaches through its port of a name
-abbrev pub fifo_state_below : List Entry → Who → PortKind → List ℕ → Option FifoState
+abbrev pub fifo_state_below : List Entry → Who → PortKind → List ℕ → Option (FifoValue Requester)
 fifo_state_below history performer kind name = option_and_then (λ fifo_port. fifo_state_at history fifo_port.fifo) (fifo_port_below history performer kind name)
 
 -- an item can be put into the FIFO immediately
-abbrev pub puts_now : Option FifoState → Bool
-puts_now fifo_state = option_map_or (λ fifo_state. can_put fifo_state.fifo) fifo_state false
+abbrev pub puts_now : Option (FifoValue Requester) → Bool
+puts_now fifo_state = option_map_or can_put fifo_state false
 
 -- the item that can be taken out of the FIFO immediately, if there is one
-abbrev pub takes_now : Option FifoState → Option Item
-takes_now fifo_state = option_and_then (λ fifo_state. if can_take fifo_state.fifo then slice_get fifo_state.fifo.items 0 else None) fifo_state
+abbrev pub takes_now : Option (FifoValue Requester) → Option Item
+takes_now fifo_state = option_and_then (λ fifo_state. if can_take fifo_state then slice_get fifo_state.items 0 else None) fifo_state

@@ -3,6 +3,7 @@
 use uvm_glob::Name;
 use uvm_object::Who;
 use uvm_phase::Phase;
+use uvm_tlm::InPhase;
 use uvm_tree::NodeId;
 
 /// A port and the FIFO that is reached through it (IEEE 1800.2-2020, Clause 12).
@@ -25,6 +26,16 @@ pub struct Requester {
     pub port: Name,
     /// The phase in which the request was made. The wait ends with this phase.
     pub phase: Phase,
+}
+
+impl InPhase for Requester {
+    ghost use Rattle.uvm_phase.specs.Phases.{phase_number};
+
+    ghost phase_of = { λ requester. phase_number requester.phase };
+
+    fn phase_number(&self) -> u8 {
+        self.phase.number()
+    }
 }
 
 /// The driver of a sequencer: the object that last asked for an item there, and its port (IEEE 1800.2-2020, Clause 15).

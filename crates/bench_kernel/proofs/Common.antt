@@ -14,7 +14,7 @@ pub use Rattle.bench_history.specs.Next.{Allows, EachIsNext, IsNext, declined_in
 pub use Rattle.bench_history.specs.Sequences.{StartRecord, all_begun, leaving_of, sequences_of, start_by, starts_of}
 pub use Rattle.bench_history.specs.declared.needs.Need.{Need}
 pub use Rattle.bench_kernel.specs.Asked.{IsAsked}
-pub use Rattle.bench_kernel.specs.Kernels.{AreAllHeld, AreHeld, AreSeated, AreToldNext, HasEnded, IsKernel, KernelValue, LiveHonestly, WasMade, is_done, needed_type, open_need, types_made, wanted_in, who_held}
+pub use Rattle.bench_kernel.specs.Kernels.{AreAllHeld, AreHeld, AreSeated, AreToldNext, failed_of, HasEnded, IsKernel, KernelValue, LiveHonestly, WasMade, is_done, needed_type, open_need, types_made, wanted_in, who_held}
 pub use Rattle.bench_kernel.specs.Laws.{IsMadeNew, LogLaws, MadeAreNew, NobodyIsMadeTwice, OthersMakeNobody}
 pub use Rattle.bench_kernel.specs.Numbered.{AreNumbered, AreSequenceSeats, IsLeft, IsNumbered, key_of, place_in, place_of, sitter_at, sitter_of, sitters_in}
 pub use Rattle.bench_kernel.specs.Orders.{GoesBefore, IsFirstBack}

@@ -1,5 +1,6 @@
 mod Common
 pub mod Custody
+pub mod Failing
 pub mod Given
 pub mod Held
 pub mod Lists

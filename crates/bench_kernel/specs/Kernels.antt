@@ -1,5 +1,5 @@
 -- The value of a kernel in contracts, and what is true of each kernel.
-use Rattle.std.specs.Prelude.{◌≡◌, ◌≢◌, ℕ, Bool, true, false, ◌||◌, List, [], ◌∷◌, length, All, Contains, Option, Some, None, if◌then◌else◌}
+use Rattle.std.specs.Prelude.{◌≡◌, ◌≢◌, ℕ, Bool, true, false, ◌||◌, List, [], ◌∷◌, length, All, Contains, Option, Some, None, is_some, not, if◌then◌else◌}
 use Rattle.std.specs.List.{IsDistinct}
 use Rattle.std.specs.Map.{keys_of}
 use Rattle.std.specs.Option.{option_map_or}
@@ -17,8 +17,9 @@ use Rattle.bench_history.specs.History.{nodes_of, components_of, is_over}
 use Rattle.bench_history.specs.Sequences.{all_begun, starts_of, sequences_of, start_by}
 use Rattle.bench_history.specs.Laws.{AreRising, IsLiving}
 use Rattle.bench_history.specs.Next.{EachIsNext, need_in, next_of}
-use Rattle.bench_core.specs.Cores.{IsAskedNext, CoreValue, need_of}
+use Rattle.bench_core.specs.Cores.{IsAskedNext, CoreValue, is_good, need_of}
 use Rattle.bench_history.specs.declared.needs.Need.{Need}
+use Rattle.bench_core.specs.declared.cores.Health.{Health}
 use Rattle.bench_core.specs.declared.cores.Health.TheVariants.{Good}
 use Rattle.bench_kernel.specs.SequenceSeats.{AreRisingWithin}
 
@@ -28,6 +29,10 @@ pub record KernelValue (O : Type 0) : Type 0 where
   pub held : List (Who × O)
   pub failed : Bool
   pub unknown : Option Who
+
+-- whether a kernel has failed: it was abandoned, a call has no entry in the log, or the core has failed
+abbrev pub failed_of : Bool → Option Who → Health → Bool
+failed_of abandoned unknown health = abandoned || (is_some unknown || not (is_good health))
 
 -- the components and sequences whose objects are held
 abbrev pub who_held : {O : Type 0} → KernelValue O → List Who

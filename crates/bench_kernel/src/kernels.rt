@@ -70,20 +70,21 @@ pub struct Kernel<O: UvmObject> {
     core: Core,
     seats: Seats<O>,
     sequences: SequenceSeats<O>,
-    failed: bool,
+    abandoned: bool,
+    // For whom a call has no entry, since memory ran out in its object or after its answer.
     unknown: Option<Who>,
 }
 
 impl<O: UvmObject> Model for Kernel<O> {
     ghost use Rattle.bench_kernel.specs.Seats.{paths_in};
     ghost use Rattle.bench_kernel.specs.Seating.{all_held};
-    ghost use Rattle.bench_kernel.specs.Kernels.{KernelValue, IsKernel, AreSeated};
+    ghost use Rattle.bench_kernel.specs.Kernels.{KernelValue, IsKernel, AreSeated, failed_of};
 
     ghost Value = { KernelValue O };
 
-    ghost view = { λ k. record { core = k.core; held = all_held k.seats.taken k.sequences.held; failed = k.failed; unknown = k.unknown } };
+    ghost view = { λ k. record { core = k.core; held = all_held k.seats.taken k.sequences.held; failed = failed_of k.abandoned k.unknown k.core.health; unknown = k.unknown } };
 
-    ghost invariant = { λ k. IsKernel O.view O.name O.says (record { core = k.core; held = all_held k.seats.taken k.sequences.held; failed = k.failed; unknown = k.unknown })
+    ghost invariant = { λ k. IsKernel O.view O.name O.says (record { core = k.core; held = all_held k.seats.taken k.sequences.held; failed = failed_of k.abandoned k.unknown k.core.health; unknown = k.unknown })
         × AreSeated k.core.history (paths_in k.seats.taken) k.sequences.count k.sequences.held };
 }
 
@@ -104,7 +105,7 @@ impl<O: UvmObject> Kernel<O> {
             core: Core::new(alloc, script)?,
             seats: Seats::new(alloc),
             sequences: SequenceSeats::new(alloc),
-            failed: false,
+            abandoned: false,
             unknown: None,
         })
     }
@@ -121,7 +122,7 @@ impl<O: UvmObject> Kernel<O> {
         ensures words { IsDrawing R.stream (drawn_in self.new.core.history) result words.old words.new }
     {
         laws::hold();
-        if self.failed {
+        if self.has_failed() {
             return Err(CoreFault::Failed);
         }
         match self.core.next(words) {
@@ -134,23 +135,18 @@ impl<O: UvmObject> Kernel<O> {
                 let Some(call) = self.core.call() else {
                     unreachable!()
                 };
-                self.failed = true;
                 self.unknown = Some(who.copy());
                 let answer = hear(&mut self.seats, &mut self.sequences, &who, self.alloc, call);
                 let Ok(acts) = answer else {
                     return Err(CoreFault::Memory);
                 };
                 self.core.heard(acts)?;
-                self.failed = false;
                 self.unknown = None;
                 Ok(Step::Moved)
             }
             Ok(Turn::Moved) => Ok(Step::Moved),
             Ok(Turn::Over) => Ok(Step::Over),
-            Err(fault) => {
-                self.failed = true;
-                Err(fault)
-            }
+            Err(fault) => Err(fault),
         }
     }
 
@@ -158,7 +154,7 @@ impl<O: UvmObject> Kernel<O> {
     pub fn need(&self) -> Option<&Need>
         ensures { option_copied result ≡ open_need self.now }
     {
-        if self.failed {
+        if self.has_failed() {
             return None;
         }
         self.core.need()
@@ -232,7 +228,7 @@ impl<O: UvmObject> Kernel<O> {
             core: _,
             seats: _,
             sequences: _,
-            failed: _,
+            abandoned: _,
             unknown: _,
         } = self;
     }
@@ -243,7 +239,7 @@ impl<O: UvmObject> Kernel<O> {
         ensures { self.new ≡ abandoned self.old }
     {
         if !self.core.is_over() {
-            self.failed = true;
+            self.abandoned = true;
         }
     }
 
@@ -287,5 +283,12 @@ impl<O: UvmObject> Kernel<O> {
         ensures told { self.now.failed ≡ false → AreToldNext self.now.core.history self.now.core.leaving }
     {
         self.seats.len() + self.sequences.len()
+    }
+
+    // Returns whether the kernel has failed: it was abandoned, a call has no entry, or its core has failed.
+    fn has_failed(&self) -> bool
+        ensures { result ≡ self.now.failed }
+    {
+        self.abandoned || self.unknown.is_some() || self.core.has_failed()
     }
 }

@@ -20,6 +20,6 @@ mod sinks;
 
 pub use bench_kernel::{Core, CoreFault, Kernel, Misfit, Step, Unfit};
 pub use faults::RunFault;
-pub use run_results::{RunResult, empty_kernel, exit_status};
+pub use run_results::{RunResult, empty_kernel, exit_status, reports_of, run_result_of};
 pub use running::{run_kernel, run_script};
 pub use sinks::Sink;

@@ -1,12 +1,22 @@
 //! The result of a run, and how a kernel is emptied.
 
-ghost use Rattle.std.specs.Prelude.{◌≡◌, [], true};
+ghost use Rattle.std.specs.Prelude.{◌≡◌, [], Some, true};
+ghost use Rattle.uvm_glob.specs.Lists.{newest};
+ghost use Rattle.uvm_object.specs.declared.entries.Entry.TheVariants.{Over};
+ghost use Rattle.uvm_report.specs.Commands.{quit_limit};
+ghost use Rattle.uvm_report.specs.Observed as reports;
+ghost use Rattle.uvm_report.specs.Observed.{limit_of};
+ghost use Rattle.bench_history.specs.History.{is_over};
+ghost use Rattle.bench_history.specs.Reports.{report_commands};
+ghost use Rattle.bench_kernel.specs.Cores.{is_sound};
 ghost use Rattle.bench_kernel.specs.Kernels.{abandoned, is_done};
 ghost use Rattle.bench_run.specs.RunResults.{exit_status, is_clean};
+ghost use Rattle.bench_run.specs.Running.{IsRunResult, log_counts};
 
 use crate::faults::RunFault;
-use bench_kernel::Kernel;
-use uvm_object::{Reason, UvmObject};
+use bench_kernel::{Core, Kernel};
+use uvm_object::{Entry, Reason, UvmObject};
+use uvm_report::{Reports, Severity};
 
 /// The result of a run that has ended.
 #[derive(Clone, Copy, PartialEq, Eq)]
@@ -25,6 +35,43 @@ impl RunResult {
         ensures { result ≡ is_clean self.now }
     {
         matches!(self.reason, Reason::Finished) && self.errors == 0 && self.fatals == 0
+    }
+}
+
+/// Returns the result of a run that has ended. Requires that its core has not run out of memory.
+pub fn run_result_of(core: &Core) -> RunResult
+    requires over { is_over core.now.history ≡ true }
+    requires sound { is_sound core.now.health ≡ true }
+    ensures { IsRunResult result core.now.script core.now.history }
+{
+    let reports = reports_of(core);
+    RunResult {
+        reason: why_over(core),
+        errors: reports.count_of(Severity::Error),
+        fatals: reports.count_of(Severity::Fatal),
+    }
+}
+
+// Returns why the run ended.
+fn why_over(core: &Core) -> Reason
+    requires { is_over core.now.history ≡ true }
+    ensures { newest core.now.history ≡ Some (Over result) }
+{
+    match core.log().last() {
+        Some(Entry::Over(reason)) => *reason,
+        _ => unreachable!(),
+    }
+}
+
+/// Returns the report server of a core that has not run out of memory (IEEE 1800.2-2020, Clause 6).
+pub fn reports_of(core: &Core) -> &Reports
+    requires { is_sound core.now.health ≡ true }
+    ensures limit { limit_of result.now ≡ quit_limit (report_commands core.now.script core.now.history) }
+    ensures counts { reports.counts_of result.now ≡ log_counts core.now.script core.now.history }
+{
+    match core.reports() {
+        Some(reports) => reports,
+        None => unreachable!(),
     }
 }
 

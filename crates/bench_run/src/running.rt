@@ -2,26 +2,20 @@
 
 ghost use Rattle.std.specs.Prelude.{◌≡◌, ◌≢◌, ◌⊎◌, [], None, Err, OnErr, OnOk, IfOk, IfErr, IsSome, Some, true, false, if◌then◌else◌, MatchBool};
 ghost use Rattle.std.specs.Io.KnownBytes.{Appends};
-ghost use Rattle.uvm_glob.specs.Lists.{newest};
-ghost use Rattle.uvm_object.specs.declared.entries.Entry.TheVariants.{Over};
 ghost use Rattle.bench_history.specs.Next.{IsLegal, need_in, next_of};
 ghost use Rattle.bench_kernel.specs.Health.TheVariants.{Good};
 ghost use Rattle.bench_history.specs.History.{is_over};
 ghost use Rattle.bench_kernel.specs.Cores.{IsDrawn, is_sound, last_text, word_in};
 ghost use Rattle.bench_kernel.specs.Kernels.{open_need, wanted_in};
 ghost use Rattle.bench_kernel.specs.Steps.{IsSameLog, IsSupplied};
-ghost use Rattle.bench_history.specs.Reports.{report_commands};
-ghost use Rattle.uvm_report.specs.Commands.{quit_limit};
-ghost use Rattle.uvm_report.specs.Observed as reports;
-ghost use Rattle.uvm_report.specs.Observed.{limit_of};
 ghost use Rattle.bench_run.specs.Words.{HasGiven, HasLost, HasWordsOf, may_lose, word_made};
 ghost use Rattle.bench_run.specs.Lives.{AreKept, HaveLived, MayGive};
 ghost use Rattle.bench_run.specs.Sinks.{TookMore};
 ghost use Rattle.bench_run.specs.Texts.{TookTexts};
-ghost use Rattle.bench_run.specs.Running.{Grows, HasTold, IsRunResult, IsDeclined, IsHalted, IsRun, IsUnwritten, LeavesRun, log_counts, summary_of};
+ghost use Rattle.bench_run.specs.Running.{Grows, HasTold, IsDeclined, IsHalted, IsRun, IsUnwritten, LeavesRun, summary_of};
 
 use crate::faults::RunFault;
-use crate::run_results::{RunResult, empty_kernel};
+use crate::run_results::{RunResult, empty_kernel, reports_of, run_result_of};
 use crate::sinks::Sink;
 use bench_history::laws;
 use bench_kernel::{CoreFault, Kernel, Misfit, Step, Unfit, laws as custody};
@@ -29,8 +23,7 @@ use bench_script::Script;
 use rand_core::Rng;
 use std::alloc::{AllocError, Global};
 use uvm_glob::Name;
-use uvm_object::{Entry, Reason, UvmObject};
-use uvm_report::{Reports, Severity};
+use uvm_object::UvmObject;
 
 /// Runs a script to its end, on the random numbers of `words`, and returns how the run ended. For each object that is needed, it calls
 /// `make` with the name of the type. The object is declined if `make` returns `None`, or an object of another type. After each entry of
@@ -142,7 +135,7 @@ fn run_to_end<O: UvmObject, R: Rng, F: Fn(&Name) -> Result<Option<O>, AllocError
         write_last(kernel, trace, text, out)?;
     }
     write_summary(kernel, text, out)?;
-    Ok(run_result_of(kernel))
+    Ok(run_result_of(kernel.core()))
 }
 
 // Makes the next entry and returns true, or returns false if the run has ended. Before that, it drops the objects of the sequences that
@@ -178,31 +171,6 @@ fn make_entry<O: UvmObject, R: Rng, F: Fn(&Name) -> Result<Option<O>, AllocError
             Err(CoreFault::LogFull) => return Err(RunFault::LogFull),
             Err(_) => return Err(RunFault::Memory),
         }
-    }
-}
-
-// Returns how the run ended.
-fn run_result_of<O: UvmObject>(kernel: &Kernel<O>) -> RunResult
-    requires over { is_over kernel.now.core.history ≡ true }
-    requires sound { is_sound kernel.now.core.health ≡ true }
-    ensures { IsRunResult result kernel.now.core.script kernel.now.core.history }
-{
-    let reports = reports_of(kernel);
-    RunResult {
-        reason: why_over(kernel),
-        errors: reports.count_of(Severity::Error),
-        fatals: reports.count_of(Severity::Fatal),
-    }
-}
-
-// Returns why the run ended.
-fn why_over<O: UvmObject>(kernel: &Kernel<O>) -> Reason
-    requires { is_over kernel.now.core.history ≡ true }
-    ensures { newest kernel.now.core.history ≡ Some (Over result) }
-{
-    match kernel.log().last() {
-        Some(Entry::Over(reason)) => *reason,
-        _ => unreachable!(),
     }
 }
 
@@ -302,7 +270,7 @@ fn write_summary<O: UvmObject, S: Sink>(
     ensures steady { S.refuses out.new → S.refuses out.old }
 {
     text.clear();
-    if reports_of(kernel).summary(text).is_err() {
+    if reports_of(kernel.core()).summary(text).is_err() {
         return Err(RunFault::Memory);
     }
     write_text(text.as_slice(), out)
@@ -318,17 +286,5 @@ fn write_text<S: Sink>(text: &[u8], out: &mut S) -> Result<(), RunFault>
     match out.put(text) {
         Ok(()) => Ok(()),
         Err(_) => Err(RunFault::Output),
-    }
-}
-
-// Returns the report server of a kernel that has not run out of memory.
-fn reports_of<O: UvmObject>(kernel: &Kernel<O>) -> &Reports
-    requires { is_sound kernel.now.core.health ≡ true }
-    ensures limit { limit_of result.now ≡ quit_limit (report_commands kernel.now.core.script kernel.now.core.history) }
-    ensures counts { reports.counts_of result.now ≡ log_counts kernel.now.core.script kernel.now.core.history }
-{
-    match kernel.reports() {
-        Some(reports) => reports,
-        None => unreachable!(),
     }
 }

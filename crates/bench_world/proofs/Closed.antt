@@ -1,5 +1,5 @@
 -- A world whose wiring is closed.
-use Rattle.bench_world.proofs.Common.{Who, ◌≡◌, List, Bool, true, Option, Some, rules, unwrap_or, path_order, LogValue, ScriptValue, nodes_of, wiring_of, EachIsNext, ConnectFollowsBuild, is_at_check, PendingParts, Services, IsConnecting, IsClosing, ServicesMatch, IsWorld, IsReady, connecting-closed, closing-now}
+use Rattle.bench_world.proofs.Common.{Who, ◌≡◌, List, Bool, true, Option, Some, rules, unwrap_or, path_order, LogValue, ScriptValue, nodes_of, wiring_of, EachIsNext, ConnectFollowsBuild, is_at_check, PendingParts, Services, IsConnecting, IsClosing, ServicesMatch, IsWorld, IsReady, IsPrepared, Pending, Creation, Call, connecting-closed, closing-now}
 
 -- the services, with the wiring closed
 abbrev pub with_order : Services → Services
@@ -11,7 +11,7 @@ closed-match {script} {services} log follows each at_check m =
     let closing : IsClosing script log.entries true = closing-now true follows each at_check in
     search (rules, connecting, closing)
 
-closed-ready : {script : ScriptValue} {log : LogValue} {services : Services} {pending : PendingParts} → IsReady pending script log services → IsReady pending script log (with_order services)
+closed-ready : {script : ScriptValue} {log : LogValue} {services : Services} {creation : PendingParts} → IsReady creation script log services → IsReady creation script log (with_order services)
 closed-ready r = record {
   left = r.left;
   needed = r.needed;
@@ -30,10 +30,14 @@ closed-ready r = record {
   };
 }
 
+closed-prepared : (script : ScriptValue) (log : LogValue) (services : Services) (pending : Pending) → IsPrepared pending script log services → IsPrepared pending script log (with_order services)
+closed-prepared script log services (Creation creation) r = closed-ready r
+closed-prepared script log services (Call call) r = tt
+
 -- it is as good as before
 pub world-closed :
-    {P : Type 0} {sound : Bool} {script : ScriptValue} {log : LogValue} {services : Services} {pending : Option PendingParts} {leaving : List Who}
+    {P : Type 0} {sound : Bool} {script : ScriptValue} {log : LogValue} {services : Services} {pending : Option Pending} {leaving : List Who}
     → P × IsWorld sound script log services pending leaving → ConnectFollowsBuild → is_at_check script log.entries ≡ true → P × IsWorld sound script log (with_order services) pending leaving
-world-closed {log = log} p follows at_check =
+world-closed {script = script} {log} {services} p follows at_check =
     let w = p.1 in
-    (p.0, record { limit = w.limit; legal = w.legal; services_match = λ sound. closed-match log follows w.legal.each at_check (w.services_match sound); leaves = w.leaves; waits = w.waits; ready = λ pending is. closed-ready (w.ready pending is) })
+    (p.0, record { limit = w.limit; legal = w.legal; services_match = λ sound. closed-match log follows w.legal.each at_check (w.services_match sound); leaves = w.leaves; waits = w.waits; ready = λ pending is. closed-prepared script log services pending (w.ready pending is) })

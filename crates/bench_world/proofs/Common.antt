@@ -5,12 +5,16 @@ pub use Rattle.bench_history.specs.Laws.{ActsAreInPhase, ConnectFollowsBuild, Dr
 unfoldable pub use Rattle.bench_history.specs.Limits.{log_limit}
 pub use Rattle.bench_history.specs.Next.{Allows, EachIsNext, IsAct, IsLegal, IsNext, need_in, next_of}
 pub use Rattle.bench_history.specs.Sequences.{StartRecord, finished_of, home_asked, leaving_after, leaving_of, sequence_in, sequences_of, start_by, starts_of}
-pub use Rattle.bench_world.specs.Worlds.{IsActed, IsReady, IsWorld, WorldValue, made_who}
+pub use Rattle.bench_world.specs.Worlds.{Asked, IsActed, IsPrepared, IsReady, IsWorld, MayAnswer, Needed, Nothing, Standing, WorldValue, call_in, made_who, need_of, parts_in, standing_of}
+pub use Rattle.bench_world.specs.declared.pending.Pending.TheVariants.{Call, Creation}
+pub use Rattle.bench_world.specs.declared.pending.Pending.{Pending}
+pub use Rattle.bench_world.specs.declared.pending.PendingCall.{PendingCall}
 pub use Rattle.uvm_object.specs.Logs.{LogValue}
 pub use Rattle.uvm_object.specs.declared.fatals.Fatal.TheVariants.{NoObject}
 pub use Rattle.uvm_tree.specs.Nodes.{Node, node_at}
-pub use Rattle.world_acts.proofs.Common.{Refused, act_phase, home_for, numbered-map}
-pub use Rattle.world_acts.proofs.Finished.{there-begun}
+pub use Rattle.world_acts_tree.proofs.Common.{act_phase}
+pub use Rattle.world_acts_sequencers.proofs.Common.{Refused, home_for, numbered-map}
+pub use Rattle.world_acts_sequencers.proofs.Finished.{there-begun}
 pub use Rattle.world_entries.proofs.Common.{Grant, Granted, known-there, ◌^◌}
 pub use Rattle.world_entries.specs.Coming.{Comes, IsComing, IsEntryContext, PreservesMatch}
 pub use Rattle.world_entries.specs.KernelEntries.{CanEnter, entry_of}
@@ -32,5 +36,6 @@ pub use Rattle.world_services.specs.ActResults.{IsActContext, IsPerformed, Prese
 pub use Rattle.world_services.specs.CreationsMatch.{CanMake, outcome_made, who_made}
 pub use Rattle.world_services.specs.declared.services.AnswerCursor.{AnswerCursor}
 pub use Rattle.world_services.specs.declared.services.Services.{Services}
-pub use Rattle.world_state.proofs.Common.{Act, Bool, Did, Entry, IsAgenda, IsClosing, IsConnecting, List, None, Option, Outcome, Phase, ScriptValue, Some, Who, [], ap, arith, end_at, false, if◌then◌else◌, inl, inr, is_closed, late_fault, length, list_any, node_of, option_map, path_order, refl, remaining_acts, rest_of, rules, same_phase, stage_of, subst, suc, sym, true, unwrap_or, ℕ, ◌<◌, ◌==◌, ◌∙◌, ◌∷◌, ◌≡◌, ◌≤◌, ◌⊎◌}
-pub use Rattle.world_state.proofs.Connected.{building-open, closing-now, connectable-open, connecting-closed, ends-ordered, unused}
+pub use Rattle.world_state.proofs.Common.{Bool, Entry, IsAgenda, List, None, Option, Phase, ScriptValue, Some, Who, [], ap, arith, false, if◌then◌else◌, inl, inr, length, list_any, node_of, option_map, refl, rules, same_phase, subst, suc, sym, true, ℕ, ◌<◌, ◌==◌, ◌∙◌, ◌∷◌, ◌≡◌, ◌≤◌, ◌⊎◌}
+pub use Rattle.world_wiring.proofs.Common.{Act, Did, IsClosing, IsConnecting, Outcome, end_at, is_closed, late_fault, path_order, remaining_acts, rest_of, stage_of, unwrap_or}
+pub use Rattle.world_wiring.proofs.Connected.{building-open, closing-now, connectable-open, connecting-closed, ends-ordered, unused}

@@ -1,5 +1,5 @@
 -- A world goes on with one more entry.
-use Rattle.bench_world.proofs.Common.{◌≡◌, ◌<◌, ◌≤◌, ◌==◌, if◌then◌else◌, false, true, List, ◌∷◌, length, Option, None, Some, refl, ap, subst, ◌∙◌, arith, sym, Bool, Act, Who, Entry, LogValue, ScriptValue, Services, log_limit, leaving_of, leaving_after, Allows, EachIsNext, IsNext, IsLegal, next_of, IsAct, ServicesMatch, Comes, PreservesMatch, IsComing, IsEntryContext, IsWorld, Did, Outcome, PendingParts, Phase, Ended, act_phase, in_progress, in_task, remaining_acts, rest_of, performer_of, stage_of, Effect, Needs, ComesTo, effect_of, by_act, by_effect, DriversAreThere, IsSettled, PerformersAreThere, ActsAreInPhase, PreservesMatchByAct, IsPerformed, one_done, scene-of, same_phase, list_any}
+use Rattle.bench_world.proofs.Common.{◌≡◌, ◌<◌, ◌≤◌, ◌==◌, if◌then◌else◌, false, true, List, ◌∷◌, length, Option, None, Some, refl, ap, subst, ◌∙◌, arith, sym, Bool, Act, Who, Entry, LogValue, ScriptValue, Services, log_limit, leaving_of, leaving_after, Allows, EachIsNext, IsNext, IsLegal, next_of, IsAct, ServicesMatch, Comes, PreservesMatch, IsComing, IsEntryContext, IsWorld, Did, Outcome, Pending, Phase, Ended, act_phase, in_progress, in_task, remaining_acts, rest_of, performer_of, stage_of, Effect, Needs, ComesTo, effect_of, by_act, by_effect, DriversAreThere, IsSettled, PerformersAreThere, ActsAreInPhase, PreservesMatchByAct, IsPerformed, one_done, scene-of, same_phase, list_any}
 
 -- a legal log goes on with an entry that is next
 pub legal-more : {script : ScriptValue} {before : List Entry} (entry : Entry) → IsNext script before entry → length before < log_limit script → IsLegal script before → IsLegal script (entry ∷ before)
@@ -25,13 +25,13 @@ pub here : {script : ScriptValue} {history : List Entry} (comes : Comes) → Eac
 here comes each next = record { each = each; next = next; place_is = refl }
 
 pub due-here :
-    {P : Type 0} {sound : Bool} {script : ScriptValue} {log : LogValue} {services : Services} {pending : Option PendingParts} {left : List Who} (comes : Comes)
+    {P : Type 0} {sound : Bool} {script : ScriptValue} {log : LogValue} {services : Services} {pending : Option Pending} {left : List Who} (comes : Comes)
     → P × IsWorld sound script log services pending left → sound ≡ true → next_of script log.entries ≡ comes log.entries → IsEntryContext comes (length log.entries) services
 due-here {script = script} {log} comes p sound next = record { script = script; history = log.entries; coming = here comes p.1.legal.each next; known = p.1.services_match sound }
 
 -- a world goes on with an entry that is next
 goes-on :
-    {P : Type 0} {sound : Bool} {script : ScriptValue} {log more : LogValue} {old services : Services} {pending : Option PendingParts} {left leaving : List Who} (entry : Entry)
+    {P : Type 0} {sound : Bool} {script : ScriptValue} {log more : LogValue} {old services : Services} {pending : Option Pending} {left leaving : List Who} (entry : Entry)
     → P × IsWorld sound script log old pending left → sound ≡ true → length log.entries < log_limit script → IsNext script log.entries entry
     → more.entries ≡ entry ∷ log.entries → more.limit ≡ log.limit → leaving ≡ leaving_of (entry ∷ log.entries)
     → (ServicesMatch script log.entries old → ServicesMatch script (entry ∷ log.entries) services)
@@ -41,7 +41,7 @@ goes-on {log} entry p sound room next is limit leaves match =
 
 -- with what the machine enters by itself, or the answer of a component or sequence
 pub entered :
-    {P : Type 0} {sound : Bool} {script : ScriptValue} {log more : LogValue} {old services : Services} {pending : Option PendingParts} {left leaving : List Who} (comes : Comes) (entry : Entry)
+    {P : Type 0} {sound : Bool} {script : ScriptValue} {log more : LogValue} {old services : Services} {pending : Option Pending} {left leaving : List Who} (comes : Comes) (entry : Entry)
     → P × IsWorld sound script log old pending left → sound ≡ true → length log.entries < log_limit script → next_of script log.entries ≡ comes log.entries → Allows (comes log.entries) entry
     → more.entries ≡ entry ∷ log.entries → more.limit ≡ log.limit → (ServicesMatch script log.entries old → leaving ≡ leaving_of (entry ∷ log.entries)) → PreservesMatch comes entry (length log.entries) old services
     → P × IsWorld true script more services None leaving
@@ -66,7 +66,7 @@ goes-still history going task ended = by (act_phase history) refl task
 
 -- and with the entry of an act
 pub acted-on :
-    {P : Type 0} {sound : Bool} {script : ScriptValue} {log more : LogValue} {old new services : Services} {pending : Option PendingParts} {others leaving : List Who} (outcome : Outcome) (act : Act)
+    {P : Type 0} {sound : Bool} {script : ScriptValue} {log more : LogValue} {old new services : Services} {pending : Option Pending} {others leaving : List Who} (outcome : Outcome) (act : Act)
     → P × IsWorld sound script log old pending others → sound ≡ true → length log.entries < log_limit script
     → IsSettled log.entries → remaining_acts script log.entries ≡ act ∷ rest_of (remaining_acts script log.entries) → IsNext script log.entries (Did (performer_of log.entries) outcome act)
     → IsAct (next_of script log.entries) → ActsAreInPhase → PerformersAreThere → DriversAreThere → PreservesMatchByAct act outcome (length log.entries) old new
@@ -79,7 +79,7 @@ acted-on {script = script} {log} {old = old} {new} outcome act p sound room sett
 
 -- what an act comes to by itself is next
 pub performed :
-    {P : Type 0} {sound : Bool} {script : ScriptValue} {log more : LogValue} {old new services : Services} {pending : Option PendingParts} {others leaving : List Who} (outcome : Outcome) (act : Act)
+    {P : Type 0} {sound : Bool} {script : ScriptValue} {log more : LogValue} {old new services : Services} {pending : Option Pending} {others leaving : List Who} (outcome : Outcome) (act : Act)
     → P × IsWorld sound script log old pending others → sound ≡ true → length log.entries < log_limit script
     → IsSettled log.entries → remaining_acts script log.entries ≡ act ∷ rest_of (remaining_acts script log.entries) → next_of script log.entries ≡ by_act script log.entries (performer_of log.entries) act
     → ActsAreInPhase → PerformersAreThere → DriversAreThere → IsPerformed by_act act outcome (length log.entries) old new

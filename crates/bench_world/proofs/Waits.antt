@@ -1,5 +1,5 @@
 -- A world whose next act waits for an object.
-use Rattle.bench_world.proofs.Common.{◌≡◌, ◌<◌, ◌∷◌, length, List, Option, Some, None, true, Bool, refl, ap, sym, subst, ◌∙◌, rules, LogValue, ScriptValue, log_limit, ended_of, remaining_acts, rest_of, performer_of, Act, Entry, Outcome, Next, Exactly, Need, by_act, Did, AnswerCursor, next_of, need_in, DriversAreThere, IsSettled, PerformersAreThere, ActsAreInPhase, scheduled_events, delivered_causes, finished_of, Who, PendingParts, Services, ServicesMatch, objectings-same, phase_cursors-same, IsAgenda, IsActContext, IsEntered, WaitsForObject, GiveTheSame, IsActed, IsWorld, IsReady, WorldValue, for-some, scene-of, sequencing-same}
+use Rattle.bench_world.proofs.Common.{◌≡◌, ◌<◌, ◌∷◌, length, List, Option, Some, true, Bool, refl, ap, sym, subst, ◌∙◌, rules, LogValue, ScriptValue, log_limit, ended_of, remaining_acts, rest_of, performer_of, Act, Entry, Outcome, Next, Exactly, Need, by_act, Did, AnswerCursor, next_of, need_in, DriversAreThere, IsSettled, PerformersAreThere, ActsAreInPhase, scheduled_events, delivered_causes, finished_of, Who, PendingParts, Services, ServicesMatch, objectings-same, phase_cursors-same, IsAgenda, IsActContext, IsEntered, WaitsForObject, GiveTheSame, IsActed, IsWorld, IsPrepared, WorldValue, for-some, scene-of, sequencing-same, Pending, Creation, Standing, Nothing, Needed}
 use Rattle.bench_world.proofs.Going.{act-next}
 use Rattle.bench_history.specs.declared.needs.Need as needs
 
@@ -23,11 +23,11 @@ need-comes script history act {need} other same c = subst (λ (w : Who). need_in
 
 -- an act that needs an object waits, with room for it
 pub waits :
-    {P : Type 0} {sound : Bool} {script : ScriptValue} {log more : LogValue} {old services : Services} {pending : Option PendingParts} {leaving : List Who} (act : Act) (wait : PendingParts)
+    {P : Type 0} {sound : Bool} {script : ScriptValue} {log more : LogValue} {old services : Services} {pending : Option Pending} {leaving : List Who} (act : Act) (wait : PendingParts)
     → P × IsWorld sound script log old pending leaving → sound ≡ true → length log.entries < log_limit script
     → IsSettled log.entries → remaining_acts script log.entries ≡ act ∷ rest_of (remaining_acts script log.entries) → next_of script log.entries ≡ by_act script log.entries (performer_of log.entries) act
     → ActsAreInPhase → PerformersAreThere → DriversAreThere → WaitsForObject act wait log more old services → more.limit ≡ log.limit
-    → P × IsWorld true script more services (Some wait) leaving
+    → P × IsWorld true script more services (Some (Creation wait)) leaving
 waits {script = script} {log} {more} {old} {services} act wait p sound room settled left next phases performers drivers w limit =
     let m = p.1.services_match sound in
     let scene = scene-of act m p.1.legal.each settled left phases performers drivers (act-next script log.entries act next) in
@@ -40,8 +40,8 @@ waits {script = script} {log} {more} {old} {services} act wait p sound room sett
         legal = rw w.entries p.1.legal;
         services_match = λ _. rw w.entries matches;
         leaves = λ _. rw w.entries (p.1.leaves sound);
-        waits = for-some (λ _. true ≡ true) wait refl;
-        ready = for-some (λ w. IsReady w script more services) wait (record {
+        waits = for-some (λ _. true ≡ true) (Creation wait) refl;
+        ready = for-some (λ w. IsPrepared w script more services) (Creation wait) (record {
           left = rw (w.entries, w.stored_act) left;
           needed = rw w.entries comes;
           home = rw (w.same.nodes, performer, w.stored_act) w.need.home_is;
@@ -57,22 +57,22 @@ need-by script history act {need} {made} performer other same comes = subst (λ 
 
 -- the world waits for the object that is next
 pub acted-waits :
-    (script : ScriptValue) (before more : List Entry) (sound : Bool) (pending : Option needs.Need) {need kept : needs.Need} {made : Outcome} {performer : Who} {act : Act} → next_of script before ≡ Need need made performer act
+    (script : ScriptValue) (before more : List Entry) (sound : Bool) (standing : Standing) {need kept : needs.Need} {made : Outcome} {performer : Who} {act : Act} → next_of script before ≡ Need need made performer act
     → more ≡ before → sound ≡ true → kept ≡ need
-    → IsActed (next_of script before) (record { script = script; history = before; sound = sound; pending = pending }) (record { script = script; history = more; sound = true; pending = Some kept })
-acted-waits script before more sound pending {need} {kept} next same is_sound is =
-    let old : WorldValue = record { script = script; history = before; sound = sound; pending = pending } in
-    let new : WorldValue = record { script = script; history = more; sound = true; pending = Some kept } in
+    → IsActed (next_of script before) (record { script = script; history = before; sound = sound; standing = standing }) (record { script = script; history = more; sound = true; standing = Needed kept })
+acted-waits script before more sound standing {need} {kept} next same is_sound is =
+    let old : WorldValue = record { script = script; history = before; sound = sound; standing = standing } in
+    let new : WorldValue = record { script = script; history = more; sound = true; standing = Needed kept } in
     subst (λ (n : Next). IsActed n old new) (sym next) (rw (same, is_sound, is) refl)
 
 -- by what an act of the performer comes to
 pub acted-needs :
-    (script : ScriptValue) (before more : List Entry) (sound : Bool) (pending : Option needs.Need) {need kept : needs.Need} {one performer : Who} {act : Act}
+    (script : ScriptValue) (before more : List Entry) (sound : Bool) (standing : Standing) {need kept : needs.Need} {one performer : Who} {act : Act}
     → next_of script before ≡ by_act script before one act → performer ≡ one → (made : Outcome) × (by_act script before performer act ≡ Need need made performer act)
     → more ≡ before → sound ≡ true → kept ≡ need
-    → IsActed (next_of script before) (record { script = script; history = before; sound = sound; pending = pending }) (record { script = script; history = more; sound = true; pending = Some kept })
-acted-needs script before more sound pending {need} {kept} {one} {performer} {act} next speaks comes same is_sound is =
-    acted-waits script before more sound pending {need = need} {kept = kept} {made = comes.0} {performer = one} {act = act} (next ∙ need-by script before act {need = need} {made = comes.0} performer one speaks comes.1) same is_sound is
+    → IsActed (next_of script before) (record { script = script; history = before; sound = sound; standing = standing }) (record { script = script; history = more; sound = true; standing = Needed kept })
+acted-needs script before more sound standing {need} {kept} {one} {performer} {act} next speaks comes same is_sound is =
+    acted-waits script before more sound standing {need = need} {kept = kept} {made = comes.0} {performer = one} {act = act} (next ∙ need-by script before act {need = need} {made = comes.0} performer one speaks comes.1) same is_sound is
 
 -- what stands in the log, where it was performed or refused
 entered-by : {act : Act} {leaving : List Who} {log more : LogValue} {old new : Services} (performer : Who) (e : IsEntered act leaving log more old new) → old.answer.performer ≡ performer → more.entries ≡ Did performer e.outcome act ∷ log.entries
@@ -81,12 +81,12 @@ entered-by {act} {log = log} performer e speaks =
 
 -- the world has the entry that is next
 pub acted-enters :
-    (script : ScriptValue) (sound : Bool) (pending : Option needs.Need) {act : Act} {leaving : List Who} {log more : LogValue} {old new : Services} (performer : Who) (e : IsEntered act leaving log more old new)
+    (script : ScriptValue) (sound : Bool) (standing : Standing) {act : Act} {leaving : List Who} {log more : LogValue} {old new : Services} (performer : Who) (e : IsEntered act leaving log more old new)
     → next_of script log.entries ≡ by_act script log.entries performer act → old.answer.performer ≡ performer → IsActContext script log.entries act (length log.entries) old → sound ≡ true
-    → IsActed (next_of script log.entries) (record { script = script; history = log.entries; sound = sound; pending = pending }) (record { script = script; history = more.entries; sound = true; pending = None })
-acted-enters script sound pending {act} {log = log} {more} {old} performer e next speaks scene is_sound =
-    let before : WorldValue = record { script = script; history = log.entries; sound = sound; pending = pending } in
-    let after : WorldValue = record { script = script; history = more.entries; sound = true; pending = None } in
+    → IsActed (next_of script log.entries) (record { script = script; history = log.entries; sound = sound; standing = standing }) (record { script = script; history = more.entries; sound = true; standing = Nothing })
+acted-enters script sound standing {act} {log = log} {more} {old} performer e next speaks scene is_sound =
+    let before : WorldValue = record { script = script; history = log.entries; sound = sound; standing = standing } in
+    let after : WorldValue = record { script = script; history = more.entries; sound = true; standing = Nothing } in
     let comes : next_of script log.entries ≡ Exactly (Did performer e.outcome act) =
     next ∙ subst (λ (s : Who). by_act script log.entries s act ≡ Exactly (Did s e.outcome act)) speaks (e.performed.comes script log.entries scene)
     in

@@ -1,15 +1,16 @@
 //! Appends the entries of a log that no action causes: kernel entries, answers, grants and transfers.
 
-ghost use Rattle.std.specs.Prelude.{◌≡◌, ◌<◌, true, OnOk, OnErr};
-ghost use Rattle.uvm_object.specs.declared.entries.Entry.TheVariants.{Heard, Passed};
-ghost use Rattle.bench_history.specs.Cases.{Exactly, Answer};
+ghost use Rattle.std.specs.Prelude.{◌≡◌, ◌<◌, true, OnOk, OnErr, IfSome};
+ghost use Rattle.uvm_object.specs.declared.entries.Entry.TheVariants.{Passed};
+ghost use Rattle.bench_history.specs.Cases.{Exactly};
 ghost use Rattle.world_entries.specs.KernelEntries.{entry_of};
-ghost use Rattle.bench_world.specs.Worlds.{IsGranted, MayEnter, MayGrant, world_after, broken};
+ghost use Rattle.bench_world.specs.Worlds.{IsGranted, MayAnswer, MayEnter, MayGrant, answer_in, world_after, broken};
 
+use crate::pending::{PendingCall, take_call};
 use crate::worlds::World;
 use bench_history::laws;
 use std::alloc::AllocError;
-use uvm_object::{Acts, Call, Entry, Grant, LoggedPassage, Origin, Passage, Who};
+use uvm_object::{Acts, Entry, Grant, LoggedPassage, Passage};
 use uvm_tree::NodeId;
 use world_entries::kernel_entries::{self, KernelEntry};
 use world_entries::logs::push;
@@ -43,27 +44,23 @@ impl World {
         Ok(())
     }
 
-    /// Records the answer of `who` to `call`: the actions `acts`. `origin` is the origin of a scheduled call, and `None` for the call of an
-    /// active phase. Requires a consistent world whose log is not full, and that an answer of `who` to this call comes next. Errors: out of
-    /// memory; the log is unchanged, and the world is no longer consistent.
+    /// Records the answer to the pending call: the actions `acts`. Requires a consistent world whose log is not full, and that the pending
+    /// call comes next. Errors: out of memory; the log is unchanged, and the world is no longer consistent.
     #[inline(never)]
-    pub fn heard(
-        &mut self,
-        who: Who,
-        call: &Call,
-        origin: Option<Origin>,
-        acts: Acts,
-    ) -> Result<(), AllocError>
-        requires { MayEnter self.old (Answer who call.now origin) }
-        ensures ok { OnOk result (self.new ≡ world_after (Heard who origin call.now acts) self.old) }
+    pub fn heard(&mut self, acts: Acts) -> Result<(), AllocError>
+        requires { MayAnswer self.old self.old.standing }
+        ensures ok { OnOk result (IfSome (answer_in self.old.standing acts) (λ entry. self.new ≡ world_after entry self.old)) }
         ensures err { OnErr result (self.new ≡ broken self.old) }
     {
         self.sound = false;
-        self.pending = None;
         self.leaving.clear();
+        let Some(pending_call) = take_call(&mut self.pending) else {
+            unreachable!()
+        };
+        let PendingCall { who, call, origin } = pending_call;
         let (place, count) = (self.log.next_place(), acts.len());
-        answers::hear(&mut self.services, place, who.copy(), call, origin, count);
-        let entry = Entry::heard(self.alloc, who, call, origin, acts)?;
+        answers::hear(&mut self.services, place, who.copy(), &call, origin, count);
+        let entry = Entry::heard(self.alloc, who, &call, origin, acts)?;
         push(&mut self.log, entry)?;
         self.sound = true;
         Ok(())

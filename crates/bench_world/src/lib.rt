@@ -3,6 +3,7 @@
 
 mod entries;
 mod making;
+pub mod pending;
 mod stored_acts;
 mod unsound_ports;
 mod worlds;

@@ -6,11 +6,12 @@ ghost use Rattle.bench_history.specs.History.{remaining_acts, head_of};
 ghost use Rattle.bench_world.specs.Worlds.{IsActed, MayAct, MayPerform, broken};
 ghost use Rattle.bench_history.specs.Next.{next_of};
 
+use crate::pending::Pending;
 use crate::worlds::World;
 use bench_history::laws;
 use std::alloc::AllocError;
 use uvm_object::{ActRef, StoredAct};
-use world_entries::stored_acts::{CarriedOut, carry_out, stored_act_at};
+use world_entries::stored_acts::{carry_out, stored_act_at};
 
 impl World {
     /// Returns the next action of the last answer, or `None` if none is left. Requires a consistent world.
@@ -94,14 +95,14 @@ impl World {
         laws::drivers_are_there();
         self.sound = false;
         self.pending = None;
-        match carry_out(&mut self.log, &mut self.services, self.alloc, stored_act)? {
-            CarriedOut::Entered(leaving) => {
-                self.leaving = leaving;
+        let (log, services, leaving) = (&mut self.log, &mut self.services, &mut self.leaving);
+        match carry_out(log, services, self.alloc, stored_act, leaving)? {
+            None => {
                 self.sound = true;
                 Ok(())
             }
-            CarriedOut::Waits(pending) => {
-                self.pending = Some(pending);
+            Some(creation) => {
+                self.pending = Some(Pending::Creation(creation));
                 self.sound = true;
                 Ok(())
             }

@@ -1,19 +1,20 @@
 //! The world: its fields, its creation and its state.
 
-ghost use Rattle.std.specs.Prelude.{◌≡◌, [], IfOk, true, IsSome, None, length, nat_le};
+ghost use Rattle.std.specs.Prelude.{◌≡◌, [], IfOk, true, IsSome, length, nat_le};
 ghost use Rattle.bench_history.specs.Limits.{log_limit};
 ghost use Rattle.bench_history.specs.History.{test_creation};
 ghost use Rattle.world_services.specs.Services.{ServicesMatch};
 ghost use Rattle.bench_history.specs.Next.{IsLegal};
 ghost use Rattle.bench_history.specs.Sequences.{leaving_of};
-ghost use Rattle.bench_world.specs.Worlds.{WorldValue};
+ghost use Rattle.bench_world.specs.Worlds.{Nothing, WorldValue};
 
+use crate::pending::Pending;
 use bench_history::limits::log_limit;
 use bench_script::{Script, factory_of};
 use std::alloc::{AllocError, Global};
 use std::marker::Model;
 use uvm_object::{Log, StoredAct, Who};
-use world_entries::making::{PendingCreation, test_creation};
+use world_entries::making::test_creation;
 use world_services::services::Services;
 
 /// A legal log with the script of the run and the services. While `sound()` is true, the state of each service follows from the log.
@@ -24,8 +25,8 @@ pub struct World {
     pub(crate) services: Services,
     // The creation of the test, which is the first action of the run.
     pub(crate) creation: StoredAct,
-    // The creation or the start that waits for its object.
-    pub(crate) pending: Option<PendingCreation>,
+    // The creation or start that waits for its object, or the call that waits for its answer.
+    pub(crate) pending: Option<Pending>,
     // The sequences that the newest entry has ended.
     pub(crate) leaving: Vec<Who>,
     pub(crate) sound: bool,
@@ -48,13 +49,13 @@ impl Drop for World {
 }
 
 impl Model for World {
-    ghost use Rattle.std.specs.Prelude.{◌≡◌, option_map};
-    ghost use Rattle.bench_world.specs.Worlds.{WorldValue, IsWorld};
+    ghost use Rattle.std.specs.Prelude.{◌≡◌};
+    ghost use Rattle.bench_world.specs.Worlds.{WorldValue, IsWorld, standing_of};
     ghost use Rattle.bench_history.specs.History.{test_creation};
 
     ghost Value = { WorldValue };
 
-    ghost view = { λ w. record { script = w.script; history = w.log.entries; sound = w.sound; pending = option_map (λ pending. pending.need) w.pending } };
+    ghost view = { λ w. record { script = w.script; history = w.log.entries; sound = w.sound; standing = standing_of w.pending } };
 
     ghost invariant = { λ w. (w.creation ≡ test_creation w.script) × IsWorld w.sound w.script w.log w.services w.pending w.leaving.items };
 }
@@ -66,7 +67,7 @@ impl World {
     /// Creates the world of a script that has a test, with an empty log. Errors: out of memory.
     pub fn new(alloc: Global, script: Script) -> Result<World, AllocError>
         requires { IsSome script.test }
-        ensures { IfOk result (λ world. world ≡ record { script = script; history = []; sound = true; pending = None }) }
+        ensures { IfOk result (λ world. world ≡ record { script = script; history = []; sound = true; standing = Nothing }) }
     {
         let factory = factory_of(alloc, &script)?;
         let creation = StoredAct::new(alloc, test_creation(&script, &factory))?;
@@ -78,7 +79,7 @@ impl World {
     fn before(alloc: Global, script: Script, creation: StoredAct, services: Services) -> World
         requires creation { creation ≡ test_creation script }
         requires services { ServicesMatch script [] services }
-        ensures { result ≡ record { script = script; history = []; sound = true; pending = None } }
+        ensures { result ≡ record { script = script; history = []; sound = true; standing = Nothing } }
     {
         let log = Log::new(alloc, log_limit(&script));
         World {

@@ -1,6 +1,6 @@
 //! The test of a script.
 
-ghost use Rattle.std.specs.Prelude.{◌≡◌, ◌≢◌, IfErr, IfOk, IsSome, Ok, Err, option_copied};
+ghost use Rattle.std.specs.Prelude.{◌≡◌, ◌≢◌, IfErr, IfOk, IsSome, None, Ok, Err, option_copied};
 ghost use Rattle.script_input.specs.Scripts.{chosen};
 
 use bench_script::{Script, ScriptFault};
@@ -10,6 +10,7 @@ use uvm_glob::Name;
 /// the script has no test.
 pub fn choose_test(script: Script, test: Option<&Name>) -> Result<Script, ScriptFault>
     ensures ok { IfOk result (λ tested. chosen (option_copied test.entry) script ≡ Ok tested) }
+    ensures own { option_copied test.entry ≡ None → result ≡ chosen None script }
     ensures tested { IfOk result (λ tested. IsSome tested.test) }
     ensures err { IfErr result (λ fault. fault ≢ ScriptFault.Memory → chosen (option_copied test.entry) script ≡ Err fault) }
 {

@@ -1,5 +1,5 @@
 -- The run of a document.
-use Rattle.std.specs.Prelude.{◌≡◌, ◌≢◌, ◌⊎◌, ◌||◌, ℕ, Bool, true, false, not, List, [], ◌∷◌, map, filter, slice_get, bytes_eq, is_none, is_some, string_bytes, Option, Some, None, Result, Ok, Err, codes, if◌then◌else◌}
+use Rattle.std.specs.Prelude.{◌≡◌, ◌≢◌, ◌⊎◌, ◌||◌, ℕ, Bool, true, false, not, List, [], ◌∷◌, map, filter, slice_get, bytes_eq, is_none, is_some, string_bytes, Option, Some, None, Result, Ok, Err, IfOk, codes, if◌then◌else◌}
 use Rattle.std.specs.List.{list_any}
 use Rattle.std.specs.Option.{option_or}
 use Rattle.std.specs.Io.KnownBytes.{Keeps}
@@ -16,6 +16,7 @@ use Rattle.bench_script.specs.Scripts.{ScriptValue}
 use Rattle.uvm_factory.specs.Faults.{Types, type_named}
 use Rattle.bench_run.specs.RunResults.{is_clean}
 use Rattle.bench_run.specs.Running.{IsRun}
+use Rattle.bench_run.specs.Texts.{TookSome}
 use Rattle.bench_run.specs.declared.run_results.RunResult.{RunResult}
 use Rattle.bench_run.specs.declared.faults.RunFault.{RunFault}
 use Rattle.script_input.specs.Scripts.{chosen}
@@ -37,6 +38,10 @@ use Rattle.script_jobs.specs.declared.verdicts.Verdict.TheVariants.{Clean, Fault
 -- its own.
 abbrev pub script_to_run : Members → Option (List ℕ) → Result ScriptValue ScriptFault
 script_to_run root test = and_then (script_beside (codes "answers" ∷ []) root) (chosen test)
+
+-- if the document has a script to run, memory ran out before the log was full (`TookSome`)
+abbrev pub RanOutEarly : Result Members ScriptFault → Option (List ℕ) → Option ℕ → Option ℕ → Type 0
+RanOutEarly root test before after = IfOk root (λ root. IfOk (script_to_run root test) (λ script. TookSome script before after))
 
 -- the name of the test in a document, if it has one
 abbrev pub own_test : Members → Result (Option (List ℕ)) ScriptFault

@@ -10,5 +10,4 @@ mod verdicts;
 pub use answers::declared_answers;
 pub use objects::BenchObject;
 pub use runs::{reported, run_bench, script_to_run};
-pub use script_input::Breakage;
 pub use verdicts::{Refusal, Verdict};

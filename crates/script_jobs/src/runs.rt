@@ -4,10 +4,10 @@ ghost use Rattle.std.specs.Prelude.{◌≡◌, ◌≢◌, IfErr, IfOk, IsSome, M
 ghost use Rattle.toml.specs.View.{table_view};
 ghost use Rattle.script_tables.specs.Reading.{IsReading};
 ghost use Rattle.bench_run.specs.RunResults.{is_clean};
-ghost use Rattle.bench_run.specs.Texts.{TookSome, TookTexts};
+ghost use Rattle.bench_run.specs.Texts.{TookTexts};
 ghost use Rattle.bench_script.specs.Documents.{IsReadable, tree_of_bytes};
 ghost use Rattle.script_input.specs.Scripts.{words_of_seed};
-ghost use Rattle.script_jobs.specs.Runs.{GivesNamed, IsBenchRun, IsReported, IsScriptRun, IsTreeRun, lost_test, own_test, refused_by, script_to_run, undeclared};
+ghost use Rattle.script_jobs.specs.Runs.{GivesNamed, IsBenchRun, IsReported, IsScriptRun, IsTreeRun, RanOutEarly, lost_test, own_test, refused_by, script_to_run, undeclared};
 
 use crate::answers::{ANSWERS, answers_in};
 use crate::objects::BenchObject;
@@ -43,7 +43,7 @@ pub fn run_bench<S: Sink>(
 ) -> Verdict
     ensures run { IsBenchRun bytes.now (option_copied test.entry) (words_of_seed seed) trace (S.contents out.old) (S.contents out.new) result }
     ensures memory { result ≡ Verdict.Broken Breakage.Memory → IsReadable bytes.now }
-    ensures room { result ≡ Verdict.Broken Breakage.Memory → IfOk (tree_of_bytes bytes.now) (λ root. IfOk (script_to_run root (option_copied test.entry)) (λ script. TookSome script (S.taken out.old) (S.taken out.new))) }
+    ensures room { result ≡ Verdict.Broken Breakage.Memory → RanOutEarly (tree_of_bytes bytes.now) (option_copied test.entry) (S.taken out.old) (S.taken out.new) }
     ensures output { result ≡ Verdict.Broken Breakage.Output → S.refuses out.old }
 {
     match read_document(alloc, bytes) {
@@ -72,7 +72,7 @@ fn run_tree<S: Sink>(
     out: &mut S,
 ) -> Verdict
     ensures run { IsTreeRun (table_view root.now) (option_copied test.entry) (words_of_seed seed) trace (S.contents out.old) (S.contents out.new) result }
-    ensures room { result ≡ Verdict.Broken Breakage.Memory → IfOk (script_to_run (table_view root.now) (option_copied test.entry)) (λ script. TookSome script (S.taken out.old) (S.taken out.new)) }
+    ensures room { result ≡ Verdict.Broken Breakage.Memory → RanOutEarly (Ok (table_view root.now)) (option_copied test.entry) (S.taken out.old) (S.taken out.new) }
     ensures output { result ≡ Verdict.Broken Breakage.Output → S.refuses out.old }
 {
     let script = match script_to_run(alloc, root, test) {

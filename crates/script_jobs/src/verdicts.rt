@@ -3,12 +3,9 @@
 ghost use Rattle.std.specs.Prelude.{◌≡◌, OnOk};
 ghost use Rattle.std.specs.Io.KnownBytes.{Appends, Keeps};
 ghost use Rattle.script_jobs.specs.Verdicts.{fault_line, status_of};
-ghost use Rattle.script_jobs.specs.declared.verdicts.Verdict.TheVariants.{Broken as broken};
-ghost use Rattle.script_input.specs.declared.breakages.Breakage.TheVariants.{Memory as memory};
 
 use bench_script::ScriptFault;
 use script_input::Breakage;
-use std::alloc::AllocError;
 use std::{fmt, io};
 use uvm_glob::Name;
 
@@ -40,14 +37,6 @@ pub enum Refusal {
     NoObject(Name),
     /// The text of an error in an entry of `answers`: its place and its kind.
     Answers(String),
-}
-
-impl From<AllocError> for Verdict {
-    ghost from_gives = { λ _ verdict. verdict ≡ broken memory };
-
-    fn from(_error: AllocError) -> Verdict {
-        Verdict::Broken(Breakage::Memory)
-    }
 }
 
 impl fmt::Display for Refusal {

@@ -7,4 +7,4 @@ mod Single
 mod Sorting
 mod Types
 mod Unique
-pub mod Whoever
+pub mod SeatChanges

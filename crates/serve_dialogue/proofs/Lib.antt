@@ -7,4 +7,4 @@ mod Grown
 mod Marked
 mod PipeTalk
 mod Seated
-mod Turns
+mod NextTurns

@@ -58,7 +58,7 @@ module _ {C : Type 0} (spoke : C → C → List Spoken → Type 0) (ended : C �
     pub asked : spoke old between (said (asked_in answers script history))
     pub marked : AreMarkedLines (asked_in answers script history)
     pub line_stays : line between ≡ line old
-    pub flaw : IsViolation (client_next answers script history) error between new
+    pub violation : IsViolation (client_next answers script history) error between new
     pub number : line_in error ≡ line new
 
   -- The log grew by one entry. The request for it was said, and the entry is as the client answered. The notice of the object that was made

@@ -3,19 +3,14 @@
 ghost use Rattle.std.specs.List.{flat_map};
 ghost use Rattle.std.specs.Prelude.{◌≡◌, ◌≢◌, ◌<◌, ◌++◌, ◌⊎◌, [], None, Err, IfErr, IfOk, IfSome, IsSome, MatchBool, filter, ◌∷◌, OnErr, OnOk, Some, length, true};
 ghost use Rattle.uvm_glob.specs.Lists.{newest};
-ghost use Rattle.uvm_object.specs.declared.entries.Entry.TheVariants.{Over};
-ghost use Rattle.uvm_report.specs.Commands.{quit_limit};
-ghost use Rattle.uvm_report.specs.Observed as reports;
-ghost use Rattle.uvm_report.specs.Observed.{limit_of};
 ghost use Rattle.uvm_report.specs.Plain.{ArePlainLines};
 ghost use Rattle.bench_history.specs.History.{is_over};
 ghost use Rattle.bench_history.specs.Limits.{log_limit};
 ghost use Rattle.bench_history.specs.Next.{IsLegal, need_in, next_of};
-ghost use Rattle.bench_history.specs.Reports.{report_commands};
 ghost use Rattle.bench_history.specs.Sequences.{leaving_of};
 ghost use Rattle.bench_core.specs.Cores.{IsAsk, IsDrawn, Nothing, answer_in, core_after, last_text, need_of, turn_of, word_in};
 ghost use Rattle.bench_core.specs.declared.cores.Health.TheVariants.{Good};
-ghost use Rattle.bench_run.specs.Running.{IsRunResult, log_counts, summary_of};
+ghost use Rattle.bench_run.specs.Running.{summary_of};
 ghost use Rattle.bench_run.specs.Words.{word_made};
 ghost use Rattle.script_objects.specs.Seats.{object_of};
 ghost use Rattle.serve_dialogue.specs.Apart.{AreMarkedLines};
@@ -32,13 +27,12 @@ use crate::questions::{push_ask, push_back, push_need, push_new, push_time};
 use bench_core::{Core, CoreFault, Turn};
 use bench_history::laws;
 use bench_kernel::laws as custody;
-use bench_run::RunResult;
+use bench_run::{RunResult, reports_of, run_result_of};
 use bench_script::Script;
 use rand_core::Rng;
 use script_objects::{Answers, ScriptedSeats};
 use std::alloc::{AllocError, Global};
-use uvm_object::{Acts, Entry, Reason, Who};
-use uvm_report::{Reports, Severity};
+use uvm_object::{Acts, Who};
 
 /// Runs a script to its end over the objects of a client, with the random numbers of `words`, and returns the result of the run. Objects of
 /// types that have `answers` are scripted: the kernel holds them, and the client takes no part in requests for them. The client is asked for
@@ -367,41 +361,4 @@ fn send<C: Client>(client: &mut C, text: &mut Vec<u8>) -> Result<(), ServeError>
     };
     text.clear();
     Ok(())
-}
-
-// Returns the result of the run.
-fn run_result_of(core: &Core) -> RunResult
-    requires over { is_over core.now.history ≡ true }
-    requires good { core.now.health ≡ Good }
-    ensures { IsRunResult result core.now.script core.now.history }
-{
-    let reports = reports_of(core);
-    RunResult {
-        reason: why_over(core),
-        errors: reports.count_of(Severity::Error),
-        fatals: reports.count_of(Severity::Fatal),
-    }
-}
-
-// Returns why the run ended.
-fn why_over(core: &Core) -> Reason
-    requires { is_over core.now.history ≡ true }
-    ensures { newest core.now.history ≡ Some (Over result) }
-{
-    match core.log().last() {
-        Some(Entry::Over(reason)) => *reason,
-        _ => unreachable!(),
-    }
-}
-
-// Returns the report server of a core that has not failed.
-fn reports_of(core: &Core) -> &Reports
-    requires { core.now.health ≡ Good }
-    ensures limit { limit_of result.now ≡ quit_limit (report_commands core.now.script core.now.history) }
-    ensures counts { reports.counts_of result.now ≡ log_counts core.now.script core.now.history }
-{
-    match core.reports() {
-        Some(reports) => reports,
-        None => unreachable!(),
-    }
 }

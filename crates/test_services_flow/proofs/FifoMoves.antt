@@ -18,31 +18,31 @@ port n = record { node = n; phase = 4 }
 abbrev asked_in : ℕ → Owner
 asked_in phase = record { node = 1; phase = phase }
 
-abbrev move : MoveKind → ℕ → ℕ → Option Move
+abbrev move : MoveKind → ℕ → ℕ → Option (Move Owner)
 move kind n i = Some (record { kind = kind; owner = port n; item = item i })
 
 -- after the move that comes next
-abbrev settled : FifoValue → FifoValue
+abbrev settled : FifoValue Owner → FifoValue Owner
 unfolding next_move
 settled f = after_move (next_move f) f
 
 -- takes go before puts, and each in its order
 
-abbrev one_put : FifoValue
+abbrev one_put : FifoValue Owner
 one_put = with_put (port 1) (item 7) (new_fifo 1)
 
 a-put-goes-in-where-there-is-room : next_move one_put ≡ move Put 1 7
 unfolding next_move settled
 a-put-goes-in-where-there-is-room = refl
 
-abbrev full : FifoValue
+abbrev full : FifoValue Owner
 full = with_put (port 2) (item 8) (settled one_put)
 
 a-put-waits-where-it-is-full : next_move full ≡ None
 unfolding next_move settled
 a-put-waits-where-it-is-full = refl
 
-abbrev two_wait : FifoValue
+abbrev two_wait : FifoValue Owner
 two_wait = with_put (port 3) (item 9) full
 
 a-second-put-waits : next_move two_wait ≡ None
@@ -53,7 +53,7 @@ two-puts-wait : waiting_count two_wait ≡ 2
 unfolding next_move settled
 two-puts-wait = refl
 
-abbrev take_asked : FifoValue
+abbrev take_asked : FifoValue Owner
 take_asked = with_take (port 4) two_wait
 
 a-take-goes-before-the-puts : next_move take_asked ≡ move Take 4 7
@@ -64,7 +64,7 @@ the-first-put-goes-in-after-the-take : next_move (settled take_asked) ≡ move P
 unfolding next_move settled
 the-first-put-goes-in-after-the-take = refl
 
-abbrev taken_again : FifoValue
+abbrev taken_again : FifoValue Owner
 taken_again = with_take (port 4) (settled (settled take_asked))
 
 the-next-take-gets-what-was-put-next : next_move taken_again ≡ move Take 4 8
@@ -75,7 +75,7 @@ the-second-put-goes-in-after-the-next-take : next_move (settled taken_again) ≡
 unfolding next_move settled
 the-second-put-goes-in-after-the-next-take = refl
 
-abbrev last_one : FifoValue
+abbrev last_one : FifoValue Owner
 last_one = settled (settled taken_again)
 
 nobody-waits-after-the-puts-and-takes : next_move last_one ≡ None
@@ -104,21 +104,21 @@ none-is-taken-at-once-where-there-is-none = refl
 
 -- a take and two peeks wait, and then two items come
 
-abbrev three_asked : FifoValue
+abbrev three_asked : FifoValue Owner
 three_asked = with_peek (port 3) (with_take (port 2) (with_peek (port 1) (new_fifo 2)))
 
 an-item-can-be-put-while-takes-wait : can_put three_asked ≡ true
 unfolding can_put
 an-item-can-be-put-while-takes-wait = refl
 
-abbrev one_came : FifoValue
+abbrev one_came : FifoValue Owner
 one_came = with_item (item 1) three_asked
 
 a-second-item-can-be-put-while-takes-wait : can_put one_came ≡ true
 unfolding can_put
 a-second-item-can-be-put-while-takes-wait = refl
 
-abbrev two_came : FifoValue
+abbrev two_came : FifoValue Owner
 two_came = with_item (item 2) one_came
 
 a-peek-is-shown-the-first-item : next_move two_came ≡ move Peek 1 1
@@ -139,7 +139,7 @@ a-peek-leaves-the-item = refl
 
 -- a try goes before none that waits
 
-abbrev put_waits : FifoValue
+abbrev put_waits : FifoValue Owner
 put_waits = with_put (port 1) (item 1) (new_fifo 3)
 
 none-is-put-at-once-before-a-put-that-waits : can_put put_waits ≡ false
@@ -154,7 +154,7 @@ an-item-is-put-at-once-after-the-put-that-waited : can_put (settled put_waits) �
 unfolding can_put next_move settled
 an-item-is-put-at-once-after-the-put-that-waited = refl
 
-abbrev peek_waits : FifoValue
+abbrev peek_waits : FifoValue Owner
 peek_waits = with_peek (port 1) (with_item (item 2) (settled put_waits))
 
 none-is-taken-at-once-before-a-peek-that-waits : can_take peek_waits ≡ false
@@ -175,16 +175,16 @@ the-first-item-is-taken-after-the-peek = refl
 
 -- what waits ends with its phase, and the items stay
 
-abbrev ask_all : ℕ → FifoValue → FifoValue
+abbrev ask_all : ℕ → FifoValue Owner → FifoValue Owner
 ask_all = λ phase f. with_put (asked_in phase) (item phase) (with_take (asked_in phase) (with_peek (asked_in phase) f))
 
-abbrev phase_over : FifoValue
-phase_over = cleared 4 (ask_all 5 (ask_all 4 (with_item (item 1) (new_fifo 1))))
+abbrev phase_over : FifoValue Owner
+phase_over = cleared (λ (owner : Owner). owner.phase) 4 (ask_all 5 (ask_all 4 (with_item (item 1) (new_fifo 1))))
 
 waits-of-another-phase-stay : waiting_count phase_over ≡ 3
 waits-of-another-phase-stay = refl
 
-abbrev later : MoveKind → ℕ → Option Move
+abbrev later : MoveKind → ℕ → Option (Move Owner)
 later = λ kind i. Some (record { kind = kind; owner = asked_in 5; item = item i })
 
 the-peek-that-stayed-is-shown-the-item-that-stayed : next_move phase_over ≡ later Peek 1

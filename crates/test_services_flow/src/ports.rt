@@ -8,7 +8,7 @@ use crate::nodes::add_node;
 use std::alloc::{AllocError, Global};
 use std::process::Abort;
 use std::test::Fail;
-use uvm_tlm::{End, Fifo, Item, Move, MoveKind, Owner, PortKind, WireFault, Wiring};
+use uvm_tlm::{End, Fifo, InPhase, Item, Move, MoveKind, Owner, PortKind, WireFault, Wiring};
 use uvm_tree::{NodeId, Tree};
 
 // The owner of each request: the port at the root, in the run phase.
@@ -88,6 +88,44 @@ fn holds_many(fifo: &mut Fifo) -> Result<bool, AllocError> {
         }
     }
     Ok(fifo.len() == 70_000 && !fifo.is_empty() && fifo.try_take() == Some(item(0)))
+}
+
+// An owner of whom only the number of the phase is known.
+#[derive(Clone, Copy, PartialEq, Eq)]
+struct PhaseOnly(u8);
+
+impl InPhase for PhaseOnly {
+    ghost phase_of = { λ owner. owner.0 };
+
+    fn phase_number(&self) -> u8 {
+        self.0
+    }
+}
+
+#[test]
+fn a_move_returns_the_owner(rt: HostRuntime) -> Result<(), Fail> {
+    let mut fifo = Fifo::new(rt.alloc(), 1);
+    assert!(rt; owners_are_returned(&mut fifo)?);
+    Ok(())
+}
+
+// Returns whether the moves of a put and a peek have the owners of these requests, and the take of another phase is ended.
+fn owners_are_returned(fifo: &mut Fifo<PhaseOnly>) -> Result<bool, AllocError> {
+    fifo.put(PhaseOnly(4), item(7))?;
+    fifo.take(PhaseOnly(5))?;
+    fifo.peek(PhaseOnly(6))?;
+    fifo.clear_waiting(5);
+    let put = Move {
+        kind: MoveKind::Put,
+        owner: PhaseOnly(4),
+        item: item(7),
+    };
+    let peeked = Move {
+        kind: MoveKind::Peek,
+        owner: PhaseOnly(6),
+        item: item(7),
+    };
+    Ok(fifo.settle() == Some(put) && fifo.settle() == Some(peeked) && fifo.waiting() == 0)
 }
 
 // Adds an end at a node. An error changes nothing.

@@ -51,9 +51,9 @@ abbrev pub OneDriverIsSound : Type 0
 OneDriverIsSound = (w : WiringValue) → IsWiring w → (port sequencer : ℕ) → driven_from w port ≡ Some sequencer → (driver : ℕ) × IsDriver w sequencer driver
 
 -- the law that an unbounded FIFO without a next move accepts every item immediately
-abbrev pub UnboundedTakesAll : Type 0
-UnboundedTakesAll = (f : FifoValue) → f.size ≡ 0 → next_move f ≡ None → IsTrue (can_put f)
+abbrev pub UnboundedTakesAll : Type 0 → Type 0
+UnboundedTakesAll O = (f : FifoValue O) → f.size ≡ 0 → next_move f ≡ None → IsTrue (can_put f)
 
 -- the law that each move ends exactly one wait
-abbrev pub EachMoveEndsAWait : Type 0
-EachMoveEndsAWait = (f : FifoValue) → ForSome (next_move f) (λ move. waiting_count (after_move (Some move) f) + 1 ≡ waiting_count f)
+abbrev pub EachMoveEndsAWait : Type 0 → Type 0
+EachMoveEndsAWait O = (f : FifoValue O) → ForSome (next_move f) (λ move. waiting_count (after_move (Some move) f) + 1 ≡ waiting_count f)

@@ -10,6 +10,18 @@ use std::collections::VecDeque;
 use std::marker::Model;
 use uvm_tree::NodeId;
 
+/// The owner of a put, take or peek, which was requested in a phase.
+pub trait InPhase: Copy {
+    ghost use Rattle.std.specs.Prelude.{ℕ};
+
+    /// The number of the phase of the request.
+    ghost phase_of: { Self → ℕ };
+
+    /// Returns the number of the phase of the request.
+    fn phase_number(&self) -> u8
+        ensures { result ≡ phase_of self.now };
+}
+
 /// The port through which a put, take or peek was requested, and the phase of the request.
 #[derive(Clone, Copy, PartialEq, Eq)]
 pub struct Owner {
@@ -17,6 +29,14 @@ pub struct Owner {
     pub node: NodeId,
     /// The number of the phase.
     pub phase: u8,
+}
+
+impl InPhase for Owner {
+    ghost phase_of = { λ owner. owner.phase };
+
+    fn phase_number(&self) -> u8 {
+        self.phase
+    }
 }
 
 /// The kind of a move.
@@ -32,49 +52,50 @@ pub enum MoveKind {
 
 /// A move of a FIFO: the completion of one waiting put, take or peek, whose wait then ends.
 #[derive(Clone, Copy, PartialEq, Eq)]
-pub struct Move {
+pub struct Move<O = Owner> {
     /// The kind of the move.
     pub kind: MoveKind,
-    /// The port that waited, and the phase of its request.
-    pub owner: Owner,
+    /// The owner of the request that waited.
+    pub owner: O,
     /// The item that is put, taken or read.
     pub item: Item,
 }
 
 /// A put that waits until the FIFO is not full.
 #[derive(Clone, Copy, PartialEq, Eq)]
-pub struct WaitingPut {
-    /// The port that waits, and the phase of its request.
-    pub owner: Owner,
+pub struct WaitingPut<O = Owner> {
+    /// The owner of the request.
+    pub owner: O,
     /// The item to put.
     pub item: Item,
 }
 
 /// A take or a peek that waits for an item.
 #[derive(Clone, Copy, PartialEq, Eq)]
-pub struct WaitingTake {
-    /// The port that waits, and the phase of its request.
-    pub owner: Owner,
+pub struct WaitingTake<O = Owner> {
+    /// The owner of the request.
+    pub owner: O,
     /// Whether this is a peek, which leaves the item in the FIFO.
     pub peeks: bool,
 }
 
 /// A FIFO (IEEE 1800.2-2020, 12.2.8): its items, and the puts, takes and peeks that wait, each list in order of arrival. A put,
-/// take or peek waits until `settle` makes its move. Each call of `settle` ends at most one wait.
+/// take or peek waits until `settle` makes its move. Each call of `settle` ends at most one wait. Each request has an owner of the
+/// type `O`, which its move returns.
 ///
 /// In contracts, the value is the size, the items, the waiting puts, and the waiting takes and peeks. Cost: each call takes
 /// constant time, except `clear_waiting`, and except a call that moves the stored elements to a larger allocation.
-pub struct Fifo {
+pub struct Fifo<O = Owner> {
     // The maximum number of items; 0 if there is no limit.
     size: u16,
     items: VecDeque<Item>,
     // The capacity of `items` is large enough for the items of these puts too.
-    puts: VecDeque<WaitingPut>,
-    takes: VecDeque<WaitingTake>,
+    puts: VecDeque<WaitingPut<O>>,
+    takes: VecDeque<WaitingTake<O>>,
 }
 
 // (Written by hand, so that crates that use a FIFO need no proof about the drop of its fields.)
-impl Drop for Fifo {
+impl<O: Drop> Drop for Fifo<O> {
     fn drop(self) {
         let Fifo {
             size: _,
@@ -85,21 +106,21 @@ impl Drop for Fifo {
     }
 }
 
-impl Model for Fifo {
+impl<O> Model for Fifo<O> {
     ghost use Rattle.std.specs.Prelude.{◌+◌, ◌≤◌};
     ghost use Rattle.std.specs.VecDeque.{deque_len, deque_capacity};
     ghost use Rattle.uvm_tlm.specs.Fifos.{FifoValue};
 
-    ghost Value = { FifoValue };
+    ghost Value = { FifoValue O };
 
     ghost view = { λ f. record { size = f.size; items = f.items.items; puts = f.puts.items; takes = f.takes.items } };
 
     ghost invariant = { λ f. deque_len f.items + deque_len f.puts ≤ deque_capacity f.items };
 }
 
-impl Fifo {
+impl<O: InPhase> Fifo<O> {
     /// Creates an empty FIFO that holds up to `size` items, or any number if `size` is 0. Allocates no memory.
-    pub fn new(alloc: Global, size: u16) -> Fifo
+    pub fn new(alloc: Global, size: u16) -> Fifo<O>
         ensures { result ≡ new_fifo size }
     {
         Fifo {
@@ -112,7 +133,7 @@ impl Fifo {
 
     /// Adds a waiting put after the other waiting puts (the standard's `put`). `settle` completes it when the FIFO is not full.
     /// Reserves the capacity that its move needs. Errors: out of memory. An error changes nothing.
-    pub fn put(&mut self, owner: Owner, item: Item) -> Result<(), AllocError>
+    pub fn put(&mut self, owner: O, item: Item) -> Result<(), AllocError>
         ensures ok { OnOk result (self.new ≡ with_put owner item self.old) }
         ensures err { OnErr result (self.new ≡ self.old) }
     {
@@ -139,7 +160,7 @@ impl Fifo {
 
     /// Adds a waiting take after the other waiting takes and peeks (the standard's `get`). `settle` completes it when there is an
     /// item. Errors: out of memory. An error changes nothing.
-    pub fn take(&mut self, owner: Owner) -> Result<(), AllocError>
+    pub fn take(&mut self, owner: O) -> Result<(), AllocError>
         ensures ok { OnOk result (self.new ≡ with_take owner self.old) }
         ensures err { OnErr result (self.new ≡ self.old) }
     {
@@ -165,7 +186,7 @@ impl Fifo {
 
     /// Adds a waiting peek after the other waiting takes and peeks (the standard's `peek`). `settle` completes it when there is
     /// an item, which stays in the FIFO. Errors: out of memory. An error changes nothing.
-    pub fn peek(&mut self, owner: Owner) -> Result<(), AllocError>
+    pub fn peek(&mut self, owner: O) -> Result<(), AllocError>
         ensures ok { OnOk result (self.new ≡ with_peek owner self.old) }
         ensures err { OnErr result (self.new ≡ self.old) }
     {
@@ -176,7 +197,7 @@ impl Fifo {
     /// Makes the next move and returns it, or returns `None` if there is none. The first waiting take or peek gets the first
     /// item, if there is an item. Otherwise the first waiting put stores its item, if the FIFO is not full. Allocates no memory.
     #[tactic(auto, unfolding(crate::specs::Fifos::next_move))]
-    pub fn settle(&mut self) -> Option<Move>
+    pub fn settle(&mut self) -> Option<Move<O>>
         ensures value { result ≡ next_move self.old }
         ensures after { self.new ≡ after_move result self.old }
     {
@@ -188,7 +209,7 @@ impl Fifo {
 
     /// Returns the next move, which `settle` makes; `None` if there is none. Allocates no memory.
     #[tactic(auto, unfolding(crate::specs::Fifos::next_move))]
-    pub fn next_move(&self) -> Option<Move>
+    pub fn next_move(&self) -> Option<Move<O>>
         ensures { result ≡ next_move self.now }
     {
         match self.next_take() {
@@ -200,7 +221,7 @@ impl Fifo {
     /// Removes the waiting puts, takes and peeks that were requested in the phase of this number. The items stay. Allocates no
     /// memory. Cost: O(n) in the number of waiting puts, takes and peeks.
     pub fn clear_waiting(&mut self, phase: u8)
-        ensures { self.new ≡ cleared phase self.old }
+        ensures { self.new ≡ cleared O.phase_of phase self.old }
     {
         end_puts(&mut self.puts, phase);
         end_takes(&mut self.takes, phase);
@@ -249,7 +270,7 @@ impl Fifo {
     }
 
     // Returns the move of the first waiting take or peek; `None` if none waits or there is no item.
-    fn next_take(&self) -> Option<Move>
+    fn next_take(&self) -> Option<Move<O>>
         ensures { result ≡ take_move self.now }
     {
         let item = *self.items.front()?;
@@ -263,7 +284,7 @@ impl Fifo {
     }
 
     // Returns the move of the first waiting put; `None` if none waits or the FIFO is full.
-    fn next_put(&self) -> Option<Move>
+    fn next_put(&self) -> Option<Move<O>>
         ensures { result ≡ put_move self.now }
     {
         if !self.has_room() {
@@ -275,7 +296,7 @@ impl Fifo {
     }
 
     // Makes the move of the first waiting take or peek and returns it; returns `None` if none waits or there is no item.
-    fn settle_take(&mut self) -> Option<Move>
+    fn settle_take(&mut self) -> Option<Move<O>>
         ensures value { result ≡ take_move self.old }
         ensures after { self.new ≡ after_move result self.old }
     {
@@ -288,7 +309,7 @@ impl Fifo {
     }
 
     // Makes the move of the first waiting put and returns it; returns `None` if none waits or the FIFO is full.
-    fn settle_put(&mut self) -> Option<Move>
+    fn settle_put(&mut self) -> Option<Move<O>>
         ensures value { result ≡ put_move self.old }
         ensures after { self.new ≡ after_move result self.old }
     {
@@ -302,16 +323,16 @@ impl Fifo {
 }
 
 // Removes the puts that were requested in a phase.
-fn end_puts(puts: &mut VecDeque<WaitingPut>, phase: u8)
-    ensures items { puts.new.items ≡ filter (λ put. not (put.owner.phase == phase)) puts.old.items }
+fn end_puts<O: InPhase>(puts: &mut VecDeque<WaitingPut<O>>, phase: u8)
+    ensures items { puts.new.items ≡ filter (λ put. not (O.phase_of put.owner == phase)) puts.old.items }
     ensures fewer { deque_len puts.new ≤ deque_len puts.old }
 {
-    puts.retain(|put| put.owner.phase != phase);
+    puts.retain(|put| put.owner.phase_number() != phase);
 }
 
 // Removes the takes and peeks that were requested in a phase.
-fn end_takes(takes: &mut VecDeque<WaitingTake>, phase: u8)
-    ensures { takes.new.items ≡ filter (λ take. not (take.owner.phase == phase)) takes.old.items }
+fn end_takes<O: InPhase>(takes: &mut VecDeque<WaitingTake<O>>, phase: u8)
+    ensures { takes.new.items ≡ filter (λ take. not (O.phase_of take.owner == phase)) takes.old.items }
 {
-    takes.retain(|take| take.owner.phase != phase);
+    takes.retain(|take| take.owner.phase_number() != phase);
 }

@@ -25,12 +25,12 @@ pub fn one_driver_is_sound()
 
 /// States that an unbounded FIFO that has no next move accepts every item immediately, so that it never rejects a write.
 #[tactic(auto, unfolding(crate::specs::Fifos::can_put, crate::specs::Fifos::next_move))]
-pub fn unbounded_takes_all()
-    ensures { UnboundedTakesAll }
+pub fn unbounded_takes_all<O>()
+    ensures { UnboundedTakesAll O }
 {}
 
 /// States that each move of a FIFO ends exactly one wait, so that there are never more moves than waits.
 #[tactic(auto, unfolding(crate::specs::Fifos::next_move))]
-pub fn each_move_ends_a_wait()
-    ensures { EachMoveEndsAWait }
+pub fn each_move_ends_a_wait<O>()
+    ensures { EachMoveEndsAWait O }
 {}

@@ -12,6 +12,6 @@ mod wirings;
 
 pub use ends::{End, PortKind};
 pub use faults::WireFault;
-pub use fifos::{Fifo, Move, MoveKind, Owner, WaitingPut, WaitingTake};
+pub use fifos::{Fifo, InPhase, Move, MoveKind, Owner, WaitingPut, WaitingTake};
 pub use items::Item;
 pub use wirings::{Connection, Wiring};

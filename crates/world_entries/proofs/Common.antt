@@ -10,7 +10,13 @@ pub use Rattle.uvm_object.specs.declared.entries.Entry.TheVariants.{Begin, Drain
 pub use Rattle.uvm_object.specs.declared.entries.Grant.{Grant}
 pub use Rattle.uvm_sequencer.specs.Sequencers.{choice_at, granted, locked}
 pub use Rattle.uvm_tree.specs.declared.nodes.NodeKind.TheVariants.{Component}
-pub use Rattle.world_acts.proofs.Common.{PassedStays, agenda-living, enders_of, events-calls, given_below, length-snoc, numbered-holds, phase-known}
+pub use Rattle.bench_history.specs.Objections.{given_below}
+pub use Rattle.uvm_sequencer.specs.Laws.{PassedStays}
+pub use Rattle.world_sequencing.proofs.Numbered.{numbered-holds}
+pub use Rattle.world_sequencing.proofs.Starters.{phase-known}
+pub use Rattle.world_sequencing.specs.SequencesMatch.{enders_of}
+pub use Rattle.world_services.proofs.Answered.{length-snoc}
+pub use Rattle.world_state.proofs.Written.{agenda-living, events-calls}
 pub use Rattle.world_sequencing.proofs.Arbited.{arbitrated-granted, arbitrated-locked, arbitrated-more, granted-is, locked-is}
 pub use Rattle.world_sequencing.proofs.Arbiting.{arbitrating-grown}
 pub use Rattle.world_sequencing.proofs.Common.{After, ArbiterMap, ArbiterValue, Before, ChangesAt, Ended, IsArbitrated, IsArbitrating, IsKnown, IsNext, IsSequencing, LearnsAt, Mode, Start, StartRecord, arbiter_of, arbiter_with, at_sequencer, finished_of, is_runtime, known_at, lapsed_with, leaving_with, ledger_at, live_by, lock_in, mode_at, numbered, phase_at, phase_begun, ready_in, sequences_of, starts_in, starts_of}
@@ -29,7 +35,8 @@ pub use Rattle.world_services.proofs.Settling.{drain-changes, objectings-more, s
 pub use Rattle.world_services.specs.declared.phase_cursors.PhaseCursors.{PhaseCursors}
 pub use Rattle.world_services.specs.declared.services.AnswerCursor.{AnswerCursor}
 pub use Rattle.world_services.specs.declared.services.Services.{Services}
-pub use Rattle.world_state.proofs.Common.{Act, All-contains, AreInPathOrder, Call, During, EachIsNext, Entry, ForSome, IsClosedPast, IsClosing, IsConnecting, Object, Origin, Phase, Run, RunStage, ScriptValue, Sequence, Who, WiringValue, ends_connect, first_given, get, is_closed, is_task, is_told, list_any, nat_tests, node_of, nodes_in, numbers_of, path_order, released, same_phase, settled, total, with_new}
-pub use Rattle.world_state.proofs.Connected.{building-open, closing-after, connecting-after, connecting-grown, ends-ordered, past-after, permutation-contains, range-contains}
+pub use Rattle.world_state.proofs.Common.{Call, Entry, Object, Origin, Phase, Run, ScriptValue, Sequence, Who, first_given, is_task, is_told, list_any, nat_tests, node_of, nodes_in, released, same_phase, settled, total, with_new}
+pub use Rattle.world_wiring.proofs.Common.{Act, All-contains, AreInPathOrder, During, EachIsNext, ForSome, IsClosedPast, IsClosing, IsConnecting, RunStage, WiringValue, ends_connect, get, is_closed, numbers_of, path_order}
+pub use Rattle.world_wiring.proofs.Connected.{building-open, closing-after, connecting-after, connecting-grown, ends-ordered, past-after, permutation-contains, range-contains}
 pub use Rattle.world_state.proofs.Drained.{due-is-held, due-released, events-all, events-ended, events-heard, events-told, held-made, known-held}
 pub use Rattle.world_state.proofs.Scheduled.{agenda-ended, agenda-event, agenda-heard}

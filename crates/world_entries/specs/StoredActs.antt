@@ -1,5 +1,5 @@
 -- The result of an action of the last answer.
-use Rattle.std.specs.Prelude.{◌≡◌, List, ◌∷◌, length}
+use Rattle.std.specs.Prelude.{◌≡◌, List, ◌∷◌, length, Option, Some, None}
 use Rattle.uvm_acts.specs.declared.acts.Who.{Who}
 use Rattle.uvm_acts.specs.declared.acts.Act.{Act}
 use Rattle.uvm_object.specs.declared.entries.Entry.TheVariants.{Did}
@@ -12,8 +12,6 @@ use Rattle.bench_history.specs.Sequences.{leaving_after}
 use Rattle.world_services.specs.declared.services.Services.{Services}
 use Rattle.world_services.specs.ActResults.{IsInNeed, IsPerformed, one_done}
 use Rattle.world_entries.specs.declared.making.PendingParts.{PendingParts}
-use Rattle.world_entries.specs.declared.stored_acts.CarriedOut.{CarriedOut}
-use Rattle.world_entries.specs.declared.stored_acts.CarriedOut.TheVariants.{Entered, Waits}
 use Rattle.world_entries.specs.Rooms.{GiveTheSame, HasRoomToMake}
 
 -- the action was performed or refused, and its entry is in the log with its outcome; `leaving` are the sequences that it has ended
@@ -35,6 +33,6 @@ pub record WaitsForObject (act : Act) (waiting : PendingParts) (log more : LogVa
   pub has_room : HasRoomToMake (id_of NoObject) more new
 
 -- the action has its entry, or waits for its object
-abbrev pub IsCarriedOut : Act → CarriedOut → LogValue → LogValue → Services → Services → Type 0
-IsCarriedOut act (Entered leaving) log more old new = IsEntered act leaving.items log more old new
-IsCarriedOut act (Waits waiting) log more old new = WaitsForObject act waiting log more old new
+abbrev pub IsCarriedOut : Act → Option PendingParts → List Who → List Who → LogValue → LogValue → Services → Services → Type 0
+IsCarriedOut act None before leaving log more old new = IsEntered act leaving log more old new
+IsCarriedOut act (Some waiting) before leaving log more old new = WaitsForObject act waiting log more old new × (leaving ≡ before)

@@ -19,7 +19,7 @@ use world_sequencing::arbiters::{choose_at, passed_at, settle_at};
 use world_sequencing::start_records::phase_at;
 use world_services::services::Services;
 use world_services::tells::{schedule_call, tell_passed};
-use world_state::fifo_states::pass;
+use world_wiring::fifo_states::pass;
 
 /// Records that a sequencer grants the lock of a sequence, the next to grant, and schedules the call to that sequence (IEEE 1800.2-2020,
 /// Clause 15). Errors: out of memory.

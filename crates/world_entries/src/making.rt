@@ -21,7 +21,7 @@ use uvm_object::{Act, Fatal, Log, LoggedOutcome, StoredAct, Who};
 use uvm_objection::laws;
 use uvm_report::Report;
 use uvm_tree::{NodeId, NodeKind};
-use world_acts::sequencers::starts::begin;
+use world_acts_sequencers::starts::begin;
 use world_services::nodes::add_node;
 use world_services::rooms::{reserve_component, reserve_sequence};
 use world_services::services::Services;
@@ -90,22 +90,12 @@ impl PendingCreation {
         &self.parts
     }
 
-    fn into_parts(self) -> PendingParts
+    /// Returns the data. Allocates no memory.
+    pub fn into_parts(self) -> PendingParts
         ensures { result ≡ self }
     {
         let PendingCreation { parts } = self;
         Box::into_inner(parts)
-    }
-}
-
-/// Removes and returns the data of a pending creation, if one waits. Allocates no memory.
-pub fn take_parts(waiting: &mut Option<PendingCreation>) -> Option<PendingParts>
-    ensures value { result ≡ waiting.old }
-    ensures after { waiting.new ≡ None }
-{
-    match waiting.take() {
-        Some(waiting) => Some(waiting.into_parts()),
-        None => None,
     }
 }
 

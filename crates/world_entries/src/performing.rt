@@ -8,9 +8,9 @@ ghost use Rattle.world_services.specs.ActResults.{CanPerform, IsActResult, IsAct
 use crate::logs::push;
 use std::alloc::{AllocError, Global};
 use uvm_object::{Act, Entry, Fatal, Log, LoggedOutcome, StoredAct};
-use world_acts::ports::performing::perform_port_act;
-use world_acts::sequencers::performing::perform_sequencer_act;
-use world_acts::tree::performing::perform_tree_act;
+use world_acts_ports::performing::perform_port_act;
+use world_acts_sequencers::performing::perform_sequencer_act;
+use world_acts_tree::performing::perform_tree_act;
 use world_services::act_results::{ActResult, is_open_to, refused};
 use world_services::services::{AnswerCursor, Services};
 

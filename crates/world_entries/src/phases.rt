@@ -26,9 +26,9 @@ use world_sequencing::ends::{finish_all, leaving_with};
 use world_services::act_results::report_at;
 use world_services::services::Services;
 use world_services::tells::move_drains;
-use world_state::connections::close_after;
 use world_state::events::tell_each;
-use world_state::fifo_states::end_waits;
+use world_wiring::connections::close_after;
+use world_wiring::fifo_states::end_waits;
 
 /// Records that a phase begins (IEEE 1800.2-2020, Clause 9).
 pub fn begin(services: &mut Services, phase: Phase)

@@ -15,27 +15,20 @@ use uvm_object::{Entry, Log, LoggedOutcome, Outcome, StoredAct, Who};
 use world_services::act_results::ActResult;
 use world_services::services::Services;
 
-/// The result of performing an action.
-#[derive(Drop)]
-pub enum CarriedOut {
-    /// The action was performed or refused, and has its entry. The list holds the sequence that it has ended, if any.
-    Entered(Vec<Who>),
-    /// The action waits for the object that it needs.
-    Waits(PendingCreation),
-}
-
-/// Performs an action of the last answer, or refuses it, and appends its entry to the log. An action that needs an object is not performed: it
-/// waits for the object, and capacity is reserved for its entry. Errors: out of memory. An error leaves the entries unchanged.
+/// Performs an action of the last answer, or refuses it, appends its entry to the log, and puts the sequence that it has ended into `leaving`,
+/// if any. An action that needs an object is not performed: it waits for the object, and capacity is reserved for its entry. Returns it then.
+/// Errors: out of memory. An error leaves the entries unchanged.
 pub fn carry_out(
     log: &mut Log,
     services: &mut Services,
     alloc: Global,
     stored_act: StoredAct,
-) -> Result<CarriedOut, AllocError>
+    leaving: &mut Vec<Who>,
+) -> Result<Option<PendingCreation>, AllocError>
     requires can { CanPerform services.old }
     requires room { length log.old.entries < log.old.limit }
     requires open { services.old.answer.done < services.old.answer.count }
-    ensures ok { IfOk result (λ came. IsCarriedOut stored_act came log.old log.new services.old services.new) }
+    ensures ok { IfOk result (λ pending. IsCarriedOut stored_act pending leaving.old.items leaving.new.items log.old log.new services.old services.new) }
     ensures err { OnErr result (log.new.entries ≡ log.old.entries) }
     ensures limit { log.new.limit ≡ log.old.limit }
 {
@@ -43,14 +36,15 @@ pub fn carry_out(
     let act_result = perform(services, alloc, log.next_place(), stored_act.act().get())?;
     match act_result {
         ActResult::Completed(outcome) => {
-            let leaving = leaving_after(alloc, performer, &outcome)?;
+            let ended = leaving_after(alloc, performer, &outcome)?;
             enter(log, &mut services.answer, outcome, stored_act)?;
-            Ok(CarriedOut::Entered(leaving))
+            *leaving = ended;
+            Ok(None)
         }
         ActResult::Needed { need, home } => {
-            let waiting = PendingCreation::new(alloc, need, stored_act, home)?;
-            make_room(log, services, &waiting.parts().declined.id)?;
-            Ok(CarriedOut::Waits(waiting))
+            let pending = PendingCreation::new(alloc, need, stored_act, home)?;
+            make_room(log, services, &pending.parts().declined.id)?;
+            Ok(Some(pending))
         }
     }
 }

@@ -50,6 +50,11 @@ pub use Rattle.world_sequencing.specs.ArbitersMatch.{AreArbiters, AreContested, 
 pub use Rattle.world_sequencing.specs.GrantIndexes.{AddsGrantIndex, ForgetsAll, IsKnown, LearnsAt, known_at}
 pub use Rattle.world_sequencing.specs.SequencesMatch.{AreEnded, AreStarters, IsSequencing, IsStarter, MayFail, ends_with, finished_by, is_in_phase, kept_start_records, leaving_with, live_by, lives_by, phase_at, start_record_at, step_by, steps_ended}
 pub use Rattle.world_sequencing.specs.declared.grant_indexes.GrantIndex.{GrantIndex}
-pub use Rattle.world_state.proofs.Common.{DueCall, Entry, Object, Phase, Run, RunStage, ScriptValue, Who, first_given, get, is_told, lookup, lookup-map_values, map_same_pairs, nat_tests, option_map_or, option_or, path_order, same_who, take-suc}
+pub use Rattle.world_state.proofs.Common.{DueCall, Entry, Object, Phase, Run, ScriptValue, Who, first_given, is_told, nat_tests, option_map_or, option_or, same_who, take-suc}
+pub use Rattle.bench_history.specs.declared.stages.RunStage.{RunStage}
+pub use Rattle.std.proofs.lemmas.Map.Made.{lookup-map_values, map_same_pairs}
+pub use Rattle.std.specs.HashMap.{get}
+pub use Rattle.std.specs.Map.{lookup}
+pub use Rattle.uvm_tree.specs.Sorted.{path_order}
 pub use Rattle.world_state.proofs.Lists.{filter-all, filter-none, filter-twice, first-kept, first-none, map-filter, one-ended}
 pub use Rattle.world_state.proofs.Written.{IsToldOpen}

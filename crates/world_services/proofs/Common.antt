@@ -8,7 +8,7 @@ pub use Rattle.bench_history.specs.History.{calls_sort, components_called, compo
 pub use Rattle.bench_history.specs.Laws.{ActsAreInPhase, ActsGoInOrder, AreComponentNodes, DriversAreThere, HasNotEnded, IsComponent, IsComponentNode, IsDrainDue, IsSettled, IsThere, IsWanted, NeedsAreWanted, PerformersAreThere}
 pub use Rattle.bench_history.specs.Next.{EachIsNext, IsAct, need_in, next_of}
 pub use Rattle.bench_history.specs.Objections.{objections_of, with_new}
-pub use Rattle.bench_history.specs.Passing.{FifoState, Request, answered_at, fifo_state_at, fifo_state_of, fifo_state_with, is_no_put, is_put, is_take, items_entered, items_left, passage_in, passing_at, puts_asked, puts_waiting, takes_asked, takes_waiting, with_last}
+pub use Rattle.bench_history.specs.Passing.{Request, answered_at, fifo_state_at, fifo_state_of, fifo_state_with, is_no_put, is_put, is_take, items_entered, items_left, passage_in, passing_at, puts_asked, puts_waiting, takes_asked, takes_waiting, with_last}
 unfoldable pub use Rattle.bench_history.specs.Passing.{next_passed}
 pub use Rattle.bench_history.specs.Ports.{fifo_port_at, fifo_size, if_fifo, size_of}
 unfoldable pub use Rattle.bench_history.specs.Ports.{fifo_port_below, port_below}
@@ -20,6 +20,7 @@ unfoldable pub use Rattle.bench_history.specs.Sequences.{is_live}
 pub use Rattle.bench_history.specs.Wires.{end_of, node_below, wiring_of, with_both}
 pub use Rattle.bench_history.specs.declared.needs.Need.{Need}
 pub use Rattle.bench_history.specs.declared.requesters.FifoPort.{FifoPort}
+pub use Rattle.bench_history.specs.declared.requesters.Requester.{Requester}
 pub use Rattle.std.proofs.Common.{All, Bool, Contains, Err, IfErr, IfNone, IfOk, IfSome, IsOk, IsSome, List, None, Ok, OnOk, Option, Result, Some, [], add-one, ap, arith, drop, false, filter, if◌then◌else◌, inl, inr, is_none, is_some, length, map, nat_eq, not, option_and_then, option_map, refl, reverse, rules, slice_get, subst, suc, sym, take, true, unwrap_or, w64, zero, ℕ, ◌&&◌, ◌*◌, ◌++◌, ◌+◌, ◌-◌, ◌<◌, ◌==◌, ◌||◌, ◌∙◌, ◌∷◌, ◌≡◌, ◌≤◌, ◌⊎◌}
 pub use Rattle.std.proofs.Math.Seq.{drop-nil}
 pub use Rattle.std.proofs.lemmas.Bool.{cases_lt, eqb-true}
@@ -53,7 +54,7 @@ pub use Rattle.uvm_object.specs.declared.fatals.Fatal.{Fatal}
 pub use Rattle.uvm_objection.specs.Laws.{BegunDrainsAreHeld, GrowsBy, IsHeldUntilDue, NodesGrow, PlacesStay, SettledGoByTotals, places}
 pub use Rattle.uvm_phase.specs.Phases.{is_runtime, is_task, is_top_down, phase_number, same_phase}
 pub use Rattle.uvm_sequencer.specs.Sequencers.{SequencerValue}
-pub use Rattle.uvm_tlm.specs.Fifos.{next_move, waiting_count}
+pub use Rattle.uvm_tlm.specs.Fifos.{FifoValue, new_fifo, waiting_count}
 pub use Rattle.uvm_tlm.specs.Wirings.{IsPathOrder, WiringValue, end_at, is_closed, targets_of, with_end}
 pub use Rattle.uvm_tlm.specs.declared.ends.PortKind.{PortKind}
 pub use Rattle.uvm_tree.specs.Cursors.{IsLeast, LeastIsLeast, OneIsLeast, OrdersNodes, is_after, is_before, least, node_cmp, nodes_after, numbers_of}
@@ -65,7 +66,7 @@ pub use Rattle.world_sequencing.proofs.Sequenced.{sequencing-first}
 pub use Rattle.world_sequencing.specs.GrantIndexes.{AreKnown, IsKnown, known_at}
 pub use Rattle.world_sequencing.specs.declared.grant_indexes.GrantIndex.{GrantIndex}
 pub use Rattle.world_services.specs.ActResults.{ComesBy, IsActContext, IsActResult, IsActResultOfAny, IsRefusing, IsTried, PreservesMatchByAct}
-pub use Rattle.world_services.specs.Creations.{IsCreationError, IsUnmade, IsUnstarted, MayWantMemory, MayWantMemoryEarly}
+pub use Rattle.world_services.specs.Creations.{IsCreationError, IsUnmade, IsUnstarted, MayRunOut, MayRunOutEarly}
 pub use Rattle.world_services.specs.OpenPorts.{fifo_port_in}
 pub use Rattle.world_services.specs.PhaseCursor.{ArePhaseCursor, AreSamePhaseCursor, IsFirstWaiting, IsHeardIn, IsMadeIn, IsStart, last_heard, waits}
 pub use Rattle.world_services.specs.PhaseCursors.{ArePhaseCursors, AreSamePhaseCursors, HasBegunRound, IsHeardInPhaseCursors, IsMadeInPhaseCursors, going_like, phase_cursor_in}
@@ -78,18 +79,20 @@ pub use Rattle.world_services.specs.declared.phase_cursor.PhaseCursor.{PhaseCurs
 pub use Rattle.world_services.specs.declared.phase_cursors.PhaseCursors.{PhaseCursors}
 pub use Rattle.world_services.specs.declared.services.AnswerCursor.{AnswerCursor}
 pub use Rattle.world_services.specs.declared.services.Services.{Services}
-pub use Rattle.world_state.proofs.Common.{Act, All-permutation, AreEvents, AreNumbered, Call, Drain, During, Entry, Event, EventTarget, ForSome, IsAgenda, IsConnecting, IsObjecting, Item, Object, OrderKeepsAll, Origin, Outcome, Passage, Phase, PreReset, Run, RunStage, ScriptValue, Sequence, Who, drains_begun, drains_ended, due_of, fault_if, filter_same, first_given, get, get_or-range_with_len, in_order, is_drain_of, length-range_with_len, list_any_none, lookup, nat_tests, new_node, node_of, option_map_or, option_or, option_to_list, path_fault, path_order, released, same_cause, same_who, settled, total, with_drain}
-pub use Rattle.world_state.proofs.Connected.{closed-is, closing-later, closing-next}
+pub use Rattle.world_state.proofs.Common.{All-permutation, AreEvents, AreNumbered, Call, Drain, Entry, Event, EventTarget, IsAgenda, IsObjecting, Item, Object, OrderKeepsAll, Origin, Phase, PreReset, Run, ScriptValue, Sequence, Who, drains_begun, drains_ended, due_of, first_given, in_order, is_drain_of, list_any_none, nat_tests, new_node, node_of, option_map_or, option_or, option_to_list, released, same_cause, same_who, settled, total, with_drain}
+pub use Rattle.world_wiring.proofs.Common.{Act, During, ForSome, IsConnecting, Outcome, Passage, RunStage, fault_if, get, get_or-range_with_len, length-range_with_len, lookup, path_fault, path_order}
+pub use Rattle.std.proofs.lemmas.Fn.{filter_same}
+pub use Rattle.world_wiring.proofs.Connected.{closed-is, closing-later, closing-next}
 pub use Rattle.world_state.proofs.Drained.{moved, same-phase}
 pub use Rattle.world_state.proofs.Lists.{filter-none, filter-one, first-holds, first-kept, first-none}
 pub use Rattle.world_state.proofs.Objected.{objecting-changed, objecting-first, objecting-later, objecting-made, objecting-same}
-pub use Rattle.world_state.proofs.Passed.{blocked, changed_if, fewer-blocked, has-passed, passing-is, phase-ended, state}
+pub use Rattle.world_wiring.proofs.Passed.{blocked, changed_if, fewer-blocked, has-passed, passing-is, phase-ended, state}
 pub use Rattle.world_state.proofs.Placed.{of-each, parted}
 pub use Rattle.world_state.proofs.Reported.{quiet}
 pub use Rattle.world_state.proofs.ReportsGiven.{given-more}
 pub use Rattle.world_state.proofs.Scheduled.{agenda-later}
-pub use Rattle.world_state.proofs.Waiting.{asked-later, asked-more, fifo_state-ended}
-pub use Rattle.world_state.specs.FifoStates.{AddsFifoState, ChangesAt, ChangesEach, FifoMap, after_passage, passing_in, without_waits}
-pub use Rattle.world_state.specs.FifosMatch.{AreAsked, AreFifoStates, ArePassed, AreToSettle, IsPassed}
+pub use Rattle.world_wiring.proofs.Waiting.{asked-later, asked-more, fifo_state-ended}
+pub use Rattle.world_wiring.specs.FifoStates.{AddsFifoState, ChangesAt, ChangesEach, FifoMap, passing_in, after_passage, without_waits}
+pub use Rattle.world_wiring.specs.FifosMatch.{AreAsked, AreFifoStates, ArePassed, AreToSettle, IsPassed}
 pub use Rattle.world_state.specs.Phased.{ObjectionsValue, OthersStay, nodes_at, nodes_in}
-pub use Rattle.world_state.specs.Ports.{port_in}
+pub use Rattle.world_wiring.specs.Ports.{port_in}

@@ -1,5 +1,5 @@
 -- What an act comes to that makes an object.
-use Rattle.world_services.proofs.Common.{◌≡◌, ℕ, List, Option, Some, None, Result, Ok, Err, IfOk, IfErr, refl, ap, sym, ◌∙◌, subst, result_err, Override, Types, Create, Outcome, Made, Started, Fatal, Need, Creation, Starting, creation_refusal, starting_refusal, Needs, creation_effect, needed_object, needed_sequence, starting_effect, unless_refused, refusal_in, CreationError, Memory, IsFactory, IsCreationError, IsUnmade, IsUnstarted, MayWantMemory, MayWantMemoryEarly, Representation}
+use Rattle.world_services.proofs.Common.{◌≡◌, ℕ, List, Option, Some, None, Result, Ok, Err, IfOk, IfErr, refl, ap, sym, ◌∙◌, subst, result_err, Override, Types, Create, Outcome, Made, Started, Fatal, Need, Creation, Starting, creation_refusal, starting_refusal, Needs, creation_effect, needed_object, needed_sequence, starting_effect, unless_refused, refusal_in, CreationError, Memory, IsFactory, IsCreationError, IsUnmade, IsUnstarted, MayRunOut, MayRunOutEarly, Representation}
 use Rattle.uvm_acts.specs.declared.acts.Act.TheVariants.{Start}
 use Rattle.world_services.specs.declared.creations.CreationError.TheVariants.{Refused}
 
@@ -17,7 +17,7 @@ module _ {factory : Representation} (types : Types) (overrides : List Override) 
       → IsUnmade (Create type_name name) (refusal_in (creation_effect (creation types overrides))) (result_err result)
   creation_error-why creation type_name name (Ok need) ok err = ap refusal_in (ok types overrides known)
   creation_error-why creation type_name name (Err (Refused fatal)) ok err = sym (refused-why (creation_refusal (creation types overrides)) (needed_object (creation types overrides)) (Made (needed_object (creation types overrides)).type_name)) ∙ err types overrides known
-  creation_error-why creation type_name name (Err Memory) ok err = subst MayWantMemory (refused-why (creation_refusal (creation types overrides)) (needed_object (creation types overrides)) (Made (needed_object (creation types overrides)).type_name)) (err types overrides known)
+  creation_error-why creation type_name name (Err Memory) ok err = subst MayRunOut (refused-why (creation_refusal (creation types overrides)) (needed_object (creation types overrides)) (Made (needed_object (creation types overrides)).type_name)) (err types overrides known)
 
   -- and why nothing is started
   pub unstarted-why :
@@ -27,4 +27,4 @@ module _ {factory : Representation} (types : Types) (overrides : List Override) 
       → IsUnmade (Start type_name name on priority) (refusal_in (starting_effect count (starting types overrides))) (result_err result)
   unstarted-why starting count type_name name on priority (Ok found) ok err = sym (refused-why (starting_refusal (starting types overrides)) (needed_sequence (starting types overrides)) (Started _)) ∙ (ok types overrides known).0
   unstarted-why starting count type_name name on priority (Err (Refused fatal)) ok err = sym (refused-why (starting_refusal (starting types overrides)) (needed_sequence (starting types overrides)) (Started _)) ∙ err types overrides known
-  unstarted-why starting count type_name name on priority (Err Memory) ok err = subst MayWantMemoryEarly (refused-why (starting_refusal (starting types overrides)) (needed_sequence (starting types overrides)) (Started _)) (err types overrides known)
+  unstarted-why starting count type_name name on priority (Err Memory) ok err = subst MayRunOutEarly (refused-why (starting_refusal (starting types overrides)) (needed_sequence (starting types overrides)) (Started _)) (err types overrides known)

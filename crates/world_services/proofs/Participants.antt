@@ -1,5 +1,5 @@
 -- What the services know of sequencers is what the log says.
-use Rattle.world_services.proofs.Common.{◌≡◌, ℕ, ◌==◌, nat_eq, Bool, true, List, length, map, Option, Some, None, option_map, option_and_then, refl, ap, sym, subst, ◌∙◌, arith, option_map_or, get, nat_tests, first_given, waiting_count, Entry, ScriptValue, SequencerValue, next_locked, next_served, requests_at, sequencer_at, waiters_at, ended_of, nodes_of, FifoState, fifo_state_at, starts_of, finished_of, starts_in, Services, ArbiterValue, lock_in, locked_in, ready_in, served_in, IsArbitrating, arbiter_of, ledger_at, AreKnown, IsKnown, known_at, GrantIndex, live_by, ServicesMatch, sequencer-is, locked-first, served-first}
+use Rattle.world_services.proofs.Common.{◌≡◌, ℕ, ◌==◌, nat_eq, Bool, true, List, length, map, Option, Some, None, option_map, option_and_then, refl, ap, sym, subst, ◌∙◌, arith, option_map_or, get, nat_tests, first_given, waiting_count, Entry, ScriptValue, SequencerValue, next_locked, next_served, requests_at, sequencer_at, waiters_at, ended_of, nodes_of, FifoValue, Requester, fifo_state_at, starts_of, finished_of, starts_in, Services, ArbiterValue, lock_in, locked_in, ready_in, served_in, IsArbitrating, arbiter_of, ledger_at, AreKnown, IsKnown, known_at, GrantIndex, live_by, ServicesMatch, sequencer-is, locked-first, served-first}
 use Rattle.uvm_sequences.specs.Sequences.{Start}
 
 -- a node is itself
@@ -34,10 +34,10 @@ module _ {script : ScriptValue} {history : List Entry} {services : Services} (m 
       sized (Some a) = refl
 
   -- where no FIFO stands
-  pub waiters-known : (n : ℕ) → option_map (λ (fifo_state : FifoState). waiting_count fifo_state.fifo) (get nat_eq services.fifo_states n) ≡ None → requests_at history n ≡ waiters_at history n
+  pub waiters-known : (n : ℕ) → option_map waiting_count (get nat_eq services.fifo_states n) ≡ None → requests_at history n ≡ waiters_at history n
   waiters-known n none = by (fifo_state_at history n) (rw (m.fifo_states.each n) at none)
     where
-      by : (fifo_state : Option FifoState) → option_map (λ (fifo_state : FifoState). waiting_count fifo_state.fifo) fifo_state ≡ None → requests_at history n ≡ option_map_or (λ (fifo_state : FifoState). waiting_count fifo_state.fifo) fifo_state (requests_at history n)
+      by : (fifo_state : Option (FifoValue Requester)) → option_map waiting_count fifo_state ≡ None → requests_at history n ≡ option_map_or waiting_count fifo_state (requests_at history n)
       by None e = refl
       by (Some fifo_state) e = cc
 

@@ -1,6 +1,6 @@
 -- What goes through FIFOs, with one more entry.
-use Rattle.world_services.proofs.Common.{◌≡◌, ℕ, suc, ◌<◌, ◌==◌, nat_eq, Bool, true, false, not, ◌&&◌, List, [], ◌∷◌, ◌++◌, length, map, drop, slice_get, Option, Some, None, is_some, option_map, option_and_then, unwrap_or, All, Contains, inl, refl, ap, sym, ◌∙◌, subst, arith, if◌then◌else◌, IsDistinct, option_or, lookup, drop-nil, nat_tests, All-nil, All-head, All-tail, All-contains, fault_if, first_given, Phase, same_phase, path_order, PortKind, Item, next_move, WiringValue, IsPathOrder, end_at, is_closed, targets_of, with_end, OutsideTask, NoPort, Passage, Entry, End, Passed, ScriptValue, FifoPort, nodes_of, ended_of, in_task, fifo_size, fifo_port_at, fifo_port_below, if_fifo, port_below, size_of, wiring_of, with_both, Request, FifoState, answered_at, is_no_put, is_put, is_take, items_entered, items_left, next_passed, passage_in, passing_at, puts_asked, puts_waiting, fifo_state_at, fifo_state_of, fifo_state_with, takes_asked, takes_waiting, with_last, passing_refusal, Services, IsConnecting, AreAsked, AreFifoStates, ArePassed, AreToSettle, IsPassed, fifo_port_in, port_in, ServicesMatch, ChangesAt, ChangesEach, FifoMap, after_passage, passing_in, without_waits, closed-is, blocked, fewer-blocked, phase-ended, changed_if, has-passed, passing-is, state, asked-later, asked-more, fifo_state-ended, filter-none, filter-one, first-kept, first-none, length-append, Node}
-use Rattle.world_state.proofs.Passed.{HasPassed}
+use Rattle.world_services.proofs.Common.{◌≡◌, ℕ, suc, ◌<◌, ◌==◌, nat_eq, Bool, true, false, not, ◌&&◌, List, [], ◌∷◌, ◌++◌, length, map, drop, slice_get, Option, Some, None, is_some, option_map, option_and_then, unwrap_or, All, Contains, inl, refl, ap, sym, ◌∙◌, subst, arith, if◌then◌else◌, IsDistinct, option_or, lookup, drop-nil, nat_tests, All-nil, All-head, All-tail, All-contains, fault_if, first_given, Phase, same_phase, path_order, PortKind, Item, WiringValue, IsPathOrder, end_at, is_closed, targets_of, with_end, OutsideTask, NoPort, Passage, Entry, End, Passed, ScriptValue, FifoPort, nodes_of, ended_of, in_task, fifo_size, fifo_port_at, fifo_port_below, if_fifo, port_below, size_of, wiring_of, with_both, Request, FifoValue, new_fifo, Requester, answered_at, is_no_put, is_put, is_take, items_entered, items_left, next_passed, passage_in, passing_at, puts_asked, puts_waiting, fifo_state_at, fifo_state_of, fifo_state_with, takes_asked, takes_waiting, with_last, passing_refusal, Services, IsConnecting, AreAsked, AreFifoStates, ArePassed, AreToSettle, IsPassed, fifo_port_in, port_in, ServicesMatch, ChangesAt, ChangesEach, FifoMap, after_passage, passing_in, without_waits, closed-is, blocked, fewer-blocked, phase-ended, changed_if, has-passed, passing-is, state, asked-later, asked-more, fifo_state-ended, filter-none, filter-one, first-kept, first-none, length-append, Node}
+use Rattle.world_wiring.proofs.Passed.{HasPassed}
 use Rattle.uvm_tlm.specs.declared.ends.End as ends
 
 -- a wiring that is closed is the one in which ports are looked at
@@ -114,17 +114,17 @@ pub fifos_to_settle-one : {passing : ℕ → Option (ℕ × Passage)} (order : L
 fifos_to_settle-one order fifo distinct there none = record { among = nat_eq fifo; kept_are = sym (filter-one fifo order distinct there); others = none; held = λ n is. (let same : fifo ≡ n = grind (arith, nat_tests) in subst (Contains order) same there) }
 
 -- a FIFO changes, and no other
-pub fifo_states-changed : {at later : ℕ → Option FifoState} (fifo : ℕ) (change : FifoState → FifoState) {old new : FifoMap} → ((n : ℕ) → later n ≡ changed_if (fifo == n) change (at n)) → ChangesAt fifo change old new → AreFifoStates at old → AreFifoStates later new
+pub fifo_states-changed : {at later : ℕ → Option (FifoValue Requester)} (fifo : ℕ) (change : FifoValue Requester → FifoValue Requester) {old new : FifoMap} → ((n : ℕ) → later n ≡ changed_if (fifo == n) change (at n)) → ChangesAt fifo change old new → AreFifoStates at old → AreFifoStates later new
 fifo_states-changed fifo change changes c a = record { each = λ n. c n ∙ rw (a.each n) (sym (changes n)) }
 
-pub passing-same : (history later : List Entry) (fifo : ℕ) (change : FifoState → FifoState) → ((n : ℕ) → fifo_state_at later n ≡ changed_if (fifo == n) change (fifo_state_at history n)) → ((n : ℕ) → passing_at history n ≡ None) → (n : ℕ) → (fifo == n) ≡ false → passing_at later n ≡ None
+pub passing-same : (history later : List Entry) (fifo : ℕ) (change : FifoValue Requester → FifoValue Requester) → ((n : ℕ) → fifo_state_at later n ≡ changed_if (fifo == n) change (fifo_state_at history n)) → ((n : ℕ) → passing_at history n ≡ None) → (n : ℕ) → (fifo == n) ≡ false → passing_at later n ≡ None
 passing-same history later fifo change changes none n other =
     let same : fifo_state_at later n ≡ fifo_state_at history n = changes n ∙ rw other refl in
-    ap (λ (fifo_state : Option FifoState). option_map (λ passage. (n, passage)) (option_and_then passage_in fifo_state)) same ∙ none n
+    ap (λ (fifo_state : Option (FifoValue Requester)). option_map (λ passage. (n, passage)) (option_and_then passage_in fifo_state)) same ∙ none n
 
 -- what passes at a node passes to the services
 pub passing-known : (history : List Entry) {kept : FifoMap} → AreFifoStates (fifo_state_at history) kept → passing_in kept ≡ passing_at history
-passing-known history a = λ i n. ap (λ (fifo_state : Option FifoState). option_map (λ passage. (n, passage)) (option_and_then passage_in fifo_state)) (a.each n) i
+passing-known history a = λ i n. ap (λ (fifo_state : Option (FifoValue Requester)). option_map (λ passage. (n, passage)) (option_and_then passage_in fifo_state)) (a.each n) i
 
 pub next-known : {script : ScriptValue} {history : List Entry} {services : Services} → ServicesMatch script history services → first_given (map (passing_in services.fifo_states) services.fifos_to_settle.items) ≡ next_passed history
 unfolding next_passed
@@ -174,13 +174,13 @@ module _ (history : List Entry) (fifo : ℕ) (passage : Passage) (passed : ArePa
             (passing-is s.0 (drop (items_left history n) (items_entered history n)) (puts_waiting history n) (takes_waiting history n) passage here.1),
       )
 
-  pub passed-changes : (n : ℕ) → fifo_state_at (Passed fifo passage ∷ history) n ≡ changed_if (fifo == n) (λ s. after_passage (next_move s.fifo) s) (fifo_state_at history n)
+  pub passed-changes : (n : ℕ) → fifo_state_at (Passed fifo passage ∷ history) n ≡ changed_if (fifo == n) after_passage (fifo_state_at history n)
   passed-changes n = tested (fifo == n) refl
     where
       tested : (b : Bool) → (fifo == n) ≡ b
           → state (fifo_size (wiring_of history) n) (if b && is_put passage.kind then items_entered history n ++ passage.item ∷ [] else items_entered history n) (if b && is_take passage.kind then suc (items_left history n) else items_left history n) (puts_asked history n)
           (if b && is_put passage.kind then passage.request ∷ answered_at is_put history n else answered_at is_put history n) (takes_asked history n) (if b && is_no_put passage.kind then passage.request ∷ answered_at is_no_put history n else answered_at is_no_put history n) (ended_of history)
-          ≡ changed_if b (λ s. after_passage (next_move s.fifo) s) (fifo_state_at history n)
+          ≡ changed_if b after_passage (fifo_state_at history n)
       tested false is = refl
       tested true is =
           let same : fifo ≡ n = grind (arith, nat_tests) in
@@ -212,7 +212,7 @@ module _ (history : List Entry) (fifo : ℕ) (passage : Passage) (passed : ArePa
           let here : option_and_then passage_in (fifo_state_at history n) ≡ Some passage = subst (λ (n : ℕ). option_and_then passage_in (fifo_state_at history n) ≡ Some passage) same passes in
           let some : Some (n, passage) ≡ None = sym (ap (λ (given : Option Passage). option_map (λ passage. (n, passage)) given) here) ∙ none in
           cc
-      tested n false is none = ap (λ (fifo_state : Option FifoState). option_map (λ passage. (n, passage)) (option_and_then passage_in fifo_state)) (passed-changes n ∙ rw is refl) ∙ none
+      tested n false is none = ap (λ (fifo_state : Option (FifoValue Requester)). option_map (λ passage. (n, passage)) (option_and_then passage_in fifo_state)) (passed-changes n ∙ rw is refl) ∙ none
 
 -- what is connected makes no FIFO
 pub both-sizes : (wiring : WiringValue) (from to : Option ℕ) (n : ℕ) → fifo_size (with_both from to wiring) n ≡ fifo_size wiring n
@@ -237,15 +237,15 @@ size-more count end wiring n = tested (nat_eq n count) refl
     tested false is = let other : (count == n) ≡ false = grind (arith, nat_tests) in rw other refl
 
 -- which is empty
-abbrev pub added_if : Bool → Option ℕ → Option FifoState
-added_if about size = if about then option_map (λ size. fifo_state_with size [] [] []) size else None
+abbrev pub added_if : Bool → Option ℕ → Option (FifoValue Requester)
+added_if about size = if about then option_map new_fifo size else None
 
 module _ {count : ℕ} {size : Option ℕ} {entered : List Item} {left : ℕ} {puts : List (Request Item)} {puts_answered : List ℕ} {takes : List (Request Bool)} {takes_answered : List ℕ} (p : IsPassed count size entered left puts puts_answered takes takes_answered) where
   pub added-state : (about : Bool) (more now : Option ℕ) (ended : List Phase) → now ≡ (if about then more else size) → (about ≡ true → size ≡ None) → option_or (added_if about more) (state size entered left puts puts_answered takes takes_answered ended) ≡ state now entered left puts puts_answered takes takes_answered ended
   added-state false more now ended is new = rw is refl
   added-state true more now ended is new = rw (is, new refl, p.no_item (new refl), p.no_put (new refl), p.no_take (new refl), drop-nil {A = Item} left) (empty more)
     where
-      empty : (more : Option ℕ) → option_or (option_map (λ size. fifo_state_with size [] [] []) more) None ≡ option_map (λ size. fifo_state_with size [] [] []) more
+      empty : (more : Option ℕ) → option_or (added_if true more) None ≡ added_if true more
       empty None = refl
       empty (Some size) = refl
 
@@ -253,7 +253,7 @@ module _ {count : ℕ} {size : Option ℕ} {entered : List Item} {left : ℕ} {p
   added-node false more now is new = node-sized now is p
   added-node true more now is new = record { few = p.few; are_puts = asked-later p.are_puts; are_takes = asked-later p.are_takes; no_item = λ e. p.no_item (new refl); no_put = λ e. p.no_put (new refl); no_take = λ e. p.no_take (new refl) }
 
-pub added-none : (n : ℕ) (about : Bool) (more : Option ℕ) (fifo_state : Option FifoState) → (about ≡ true → fifo_state ≡ None) → option_map {U = ℕ × Passage} (λ passage. (n, passage)) (option_and_then passage_in fifo_state) ≡ None
+pub added-none : (n : ℕ) (about : Bool) (more : Option ℕ) (fifo_state : Option (FifoValue Requester)) → (about ≡ true → fifo_state ≡ None) → option_map {U = ℕ × Passage} (λ passage. (n, passage)) (option_and_then passage_in fifo_state) ≡ None
     → option_map {U = ℕ × Passage} (λ passage. (n, passage)) (option_and_then passage_in (option_or (added_if about more) fifo_state)) ≡ None
 added-none n false more fifo_state new none = none
 added-none n true None fifo_state new none = rw (new refl) refl
@@ -268,7 +268,7 @@ ended-is : (history : List Entry) (phase : Phase) (n : ℕ) → fifo_state_at (E
 ended-is history phase n = phase-ended (fifo_size (wiring_of history) n) (items_entered history n) (items_left history n) (puts_asked history n) (answered_at is_put history n) (takes_asked history n) (answered_at is_no_put history n) (ended_of history) phase
 
 pub fifo_states-ended : (history : List Entry) (phase : Phase) {old new : FifoMap} → ChangesEach (without_waits phase) old new → AreFifoStates (fifo_state_at history) old → AreFifoStates (fifo_state_at (End phase ∷ history)) new
-fifo_states-ended history phase c a = record { each = λ n. c n ∙ ap (λ (fifo_state : Option FifoState). option_map (without_waits phase) fifo_state) (a.each n) ∙ sym (ended-is history phase n) }
+fifo_states-ended history phase c a = record { each = λ n. c n ∙ ap (λ (fifo_state : Option (FifoValue Requester)). option_map (without_waits phase) fifo_state) (a.each n) ∙ sym (ended-is history phase n) }
 
 -- so that nothing more passes
 sized-ended :
@@ -277,7 +277,7 @@ sized-ended :
 sized-ended n phase None items puts takes none = refl
 sized-ended n phase (Some size) items puts takes none =
     let still = fewer-blocked size items puts takes (λ request. not (same_phase request.requester.phase phase)) (λ request. not (same_phase request.requester.phase phase)) (blocked-at (passage_in (fifo_state_with size items puts takes)) none) in
-    ap (λ (s : FifoState). option_map {U = ℕ × Passage} (λ passage. (n, passage)) (passage_in s)) (fifo_state-ended phase size items puts takes)
+    ap (λ (s : FifoValue Requester). option_map {U = ℕ × Passage} (λ passage. (n, passage)) (passage_in s)) (fifo_state-ended phase size items puts takes)
     ∙ ap (λ (passage : Option Passage). option_map {U = ℕ × Passage} (λ passage. (n, passage)) passage) still
   where
     blocked-at : (passage : Option Passage) → option_map {U = ℕ × Passage} (λ passage. (n, passage)) passage ≡ None → passage ≡ None
@@ -289,7 +289,7 @@ fifos_to_settle-ended history phase u = record {
   among = u.among;
   kept_are = u.kept_are;
   others = λ n is.
-      ap (λ (fifo_state : Option FifoState). option_map {U = ℕ × Passage} (λ passage. (n, passage)) (option_and_then passage_in fifo_state)) (ended-is history phase n)
+      ap (λ (fifo_state : Option (FifoValue Requester)). option_map {U = ℕ × Passage} (λ passage. (n, passage)) (option_and_then passage_in fifo_state)) (ended-is history phase n)
       ∙ sized-ended n phase (fifo_size (wiring_of history) n) (drop (items_left history n) (items_entered history n)) (puts_waiting history n) (takes_waiting history n) (u.others n is);
   held = u.held;
 }

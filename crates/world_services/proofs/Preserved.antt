@@ -1,5 +1,5 @@
 -- What is kept of FIFOs goes on where ends are connected and nodes are added.
-use Rattle.world_services.proofs.Common.{◌≡◌, ℕ, ◌==◌, true, List, [], ◌∷◌, length, Option, None, option_map, option_and_then, ap, sym, ◌∙◌, subst, arith, nat_tests, path_order, Who, What, Passage, option_or, Add, Connect, Done, Entry, Did, ScriptValue, nodes_of, ended_of, end_of, node_below, wiring_of, with_both, fifo_size, size_of, FifoState, answered_at, is_no_put, is_put, items_entered, items_left, next_passed, passage_in, passing_at, puts_asked, fifo_state_at, fifo_state_of, takes_asked, Services, AreFifoStates, ArePassed, AreToSettle, ServicesMatch, AddsFifoState, FifoMap}
+use Rattle.world_services.proofs.Common.{◌≡◌, ℕ, ◌==◌, true, List, [], ◌∷◌, length, Option, None, option_map, option_and_then, ap, sym, ◌∙◌, subst, arith, nat_tests, path_order, Who, What, Passage, option_or, Add, Connect, Done, Entry, Did, ScriptValue, nodes_of, ended_of, end_of, node_below, wiring_of, with_both, fifo_size, size_of, FifoValue, Requester, answered_at, is_no_put, is_put, items_entered, items_left, next_passed, passage_in, passing_at, puts_asked, fifo_state_at, fifo_state_of, takes_asked, Services, AreFifoStates, ArePassed, AreToSettle, ServicesMatch, AddsFifoState, FifoMap}
 use Rattle.world_services.proofs.Passages.{added-node, added-none, added-state, added_if, both-sizes, no-fifo_state, node-sized, size-more, fifos_to_settle-none, fifos_to_settle-same, settled-all}
 
 -- what is kept of FIFOs is what a log says
@@ -18,7 +18,7 @@ joined-kept {history = history} performer from to m =
     record {
       fifo_states_are = record { each = λ n. m.fifo_states.each n ∙ sym (same n) };
       passed = record { each = λ n. node-sized (fifo_size (with_both (below from) (below to) (wiring_of history)) n) (both-sizes (wiring_of history) (below from) (below to) n) (m.passed.each n) };
-      fifos_to_settle_are = fifos_to_settle-same (λ n. ap (λ (fifo_state : Option FifoState). option_map {U = ℕ × Passage} (λ passage. (n, passage)) (option_and_then passage_in fifo_state)) (same n)) m.fifos_to_settle;
+      fifos_to_settle_are = fifos_to_settle-same (λ n. ap (λ (fifo_state : Option (FifoValue Requester)). option_map {U = ℕ × Passage} (λ passage. (n, passage)) (option_and_then passage_in fifo_state)) (same n)) m.fifos_to_settle;
     }
 
 -- a node is added, which may be a FIFO
@@ -33,10 +33,10 @@ added-kept {history = history} performer name what m settled unused adds is =
     let changes : (n : ℕ) → option_or (added_if (count == n) more) (fifo_state_at history n) ≡ fifo_state_at (Did performer Done (Add name what) ∷ history) n =
     λ n. added-state (m.passed.each n) (count == n) more _ (ended_of history) (size-more count (end_of what) (wiring_of history) n) (new n) in
     record {
-      fifo_states_are = record { each = λ n. adds n ∙ ap (λ (fifo_state : Option FifoState). option_or (added_if (count == n) more) fifo_state) (m.fifo_states.each n) ∙ changes n };
+      fifo_states_are = record { each = λ n. adds n ∙ ap (λ (fifo_state : Option (FifoValue Requester)). option_or (added_if (count == n) more) fifo_state) (m.fifo_states.each n) ∙ changes n };
       passed = record { each = λ n. added-node (m.passed.each n) (count == n) more _ (size-more count (end_of what) (wiring_of history) n) (new n) };
       fifos_to_settle_are = rw is (fifos_to_settle-none _ (λ n.
-          ap (λ (fifo_state : Option FifoState). option_map {U = ℕ × Passage} (λ passage. (n, passage)) (option_and_then passage_in fifo_state)) (sym (changes n))
+          ap (λ (fifo_state : Option (FifoValue Requester)). option_map {U = ℕ × Passage} (λ passage. (n, passage)) (option_and_then passage_in fifo_state)) (sym (changes n))
           ∙ added-none n (count == n) more (fifo_state_at history n) (λ about. no-fifo_state history n (new n about)) (settled-all history m.fifos_to_settle settled n)));
     }
   where

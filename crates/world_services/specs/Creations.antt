@@ -21,22 +21,22 @@ creation_in types overrides services performer type_name name =
 
 -- a creation may run out of memory instead of this refusal, or of none: of all refusals, only that of an override loop is checked after the
 -- allocations
-abbrev pub MayWantMemory : Option Fatal → Type 0
-MayWantMemory None = Unit {0}
-MayWantMemory (Some OverrideLoop) = Unit {0}
-MayWantMemory (Some fatal) = ⊥
+abbrev pub MayRunOut : Option Fatal → Type 0
+MayRunOut None = Unit {0}
+MayRunOut (Some OverrideLoop) = Unit {0}
+MayRunOut (Some fatal) = ⊥
 
 -- a start may run out of memory instead of this refusal, or of none: only those of its path and of an override loop are checked after an allocation
-abbrev pub MayWantMemoryEarly : Option Fatal → Type 0
-MayWantMemoryEarly None = Unit {0}
-MayWantMemoryEarly (Some TreeLimit) = Unit {0}
-MayWantMemoryEarly (Some OverrideLoop) = Unit {0}
-MayWantMemoryEarly (Some fatal) = ⊥
+abbrev pub MayRunOutEarly : Option Fatal → Type 0
+MayRunOutEarly None = Unit {0}
+MayRunOutEarly (Some TreeLimit) = Unit {0}
+MayRunOutEarly (Some OverrideLoop) = Unit {0}
+MayRunOutEarly (Some fatal) = ⊥
 
--- out of memory may be reported in place of this rejection or of none: `MayWantMemoryEarly` for a start, otherwise `MayWantMemory`
-abbrev pub MayWantMemoryFor : Act → Option Fatal → Type 0
-MayWantMemoryFor (Start type_name name on priority) refusal = MayWantMemoryEarly refusal
-MayWantMemoryFor act refusal = MayWantMemory refusal
+-- out of memory may be reported in place of this rejection or of none: `MayRunOutEarly` for a start, otherwise `MayRunOut`
+abbrev pub MayRunOutFor : Act → Option Fatal → Type 0
+MayRunOutFor (Start type_name name on priority) refusal = MayRunOutEarly refusal
+MayRunOutFor act refusal = MayRunOut refusal
 
 -- what a start by a performer depends on, taken from the services
 abbrev pub starting_in : Types → List Override → Services → Who → List ℕ → List ℕ → List (List ℕ) → Option ℕ → Starting
@@ -50,18 +50,18 @@ starting_in types overrides services performer type_name name on priority = reco
   priority = priority;
 }
 
--- why a component is not created: the refusal, or out of memory if `MayWantMemory` allows it
+-- why a component is not created: the refusal, or out of memory if `MayRunOut` allows it
 abbrev pub IsCreationError : Option Fatal → CreationError → Type 0
 IsCreationError refusal (Refused fatal) = refusal ≡ Some fatal
-IsCreationError refusal Memory = MayWantMemory refusal
+IsCreationError refusal Memory = MayRunOut refusal
 
--- why a sequence is not started: the refusal, or out of memory if `MayWantMemoryEarly` allows it
+-- why a sequence is not started: the refusal, or out of memory if `MayRunOutEarly` allows it
 abbrev pub IsUnstarted : Option Fatal → CreationError → Type 0
 IsUnstarted refusal (Refused fatal) = refusal ≡ Some fatal
-IsUnstarted refusal Memory = MayWantMemoryEarly refusal
+IsUnstarted refusal Memory = MayRunOutEarly refusal
 
--- why an action creates no object, if so: its refusal, or out of memory if `MayWantMemoryFor` allows it
+-- why an action creates no object, if so: its refusal, or out of memory if `MayRunOutFor` allows it
 abbrev pub IsUnmade : Act → Option Fatal → Option CreationError → Type 0
 IsUnmade act refusal None = refusal ≡ None
 IsUnmade act refusal (Some (Refused fatal)) = refusal ≡ Some fatal
-IsUnmade act refusal (Some Memory) = MayWantMemoryFor act refusal
+IsUnmade act refusal (Some Memory) = MayRunOutFor act refusal

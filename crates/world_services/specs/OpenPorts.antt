@@ -10,7 +10,7 @@ use Rattle.bench_history.specs.Ports.{fifo_port_at}
 use Rattle.bench_history.specs.History.{in_task}
 use Rattle.bench_history.specs.Refusals.{passing_refusal}
 use Rattle.world_services.specs.declared.services.Services.{Services}
-use Rattle.world_state.specs.Ports.{port_in}
+use Rattle.world_wiring.specs.Ports.{port_in}
 
 -- the performer's correctly connected port of a kind and a name, with the FIFO that it reaches
 abbrev pub fifo_port_in : Services → PortKind → List ℕ → Option FifoPort

@@ -30,8 +30,8 @@ use Rattle.world_state.specs.ReportsMatch.{IsReportState}
 use Rattle.world_state.specs.ObjectionsMatch.{IsObjecting, AreEvents}
 use Rattle.uvm_tlm.specs.Wirings.{is_closed}
 use Rattle.bench_history.specs.Wires.{ends_connect, wiring_of}
-use Rattle.world_state.specs.WiringMatch.{IsClosedPast, IsClosing, IsConnecting}
-use Rattle.world_state.specs.FifosMatch.{AreFifoStates, ArePassed, AreToSettle}
+use Rattle.world_wiring.specs.WiringMatch.{IsClosedPast, IsClosing, IsConnecting}
+use Rattle.world_wiring.specs.FifosMatch.{AreFifoStates, ArePassed, AreToSettle}
 use Rattle.uvm_tree.specs.Sorted.{path_order}
 use Rattle.bench_history.specs.Sequences.{starts_of, finished_of}
 use Rattle.world_sequencing.specs.SequencesMatch.{IsSequencing, enders_of}

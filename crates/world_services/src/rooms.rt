@@ -3,7 +3,7 @@
 ghost use Rattle.std.specs.Prelude.{◌≡◌, ◌<◌, OnOk, IsSome, Some, vec_len, vec_capacity};
 ghost use Rattle.uvm_tree.specs.Nodes.{node_at};
 ghost use Rattle.uvm_acts.specs.Acts.{node_of};
-ghost use Rattle.world_state.specs.Phased.{nodes_in, spare_in};
+ghost use Rattle.world_state.specs.Phased.{SameNodes, spare_in};
 ghost use Rattle.world_services.specs.PhaseCursors.{AreSamePhaseCursors, HaveRoom};
 
 use crate::services::Services;
@@ -14,7 +14,7 @@ use uvm_phase::Phase;
 pub fn reserve_component(services: &mut Services) -> Result<(), AllocError>
     ensures services { services.new ≡ record services.old { tree = services.new.tree; objections = services.new.objections; phase_cursors = services.new.phase_cursors } }
     ensures nodes { services.new.tree.nodes ≡ services.old.tree.nodes }
-    ensures objections { (phase : Phase) → nodes_in services.new.objections phase ≡ nodes_in services.old.objections phase }
+    ensures objections { SameNodes services.old.objections services.new.objections }
     ensures given { services.new.objections.given ≡ services.old.objections.given }
     ensures phase_cursors { AreSamePhaseCursors services.old.phase_cursors services.new.phase_cursors }
     ensures tree_spare { OnOk result (IsSome (node_at services.old.tree.nodes (node_of services.old.answer.performer)) → services.new.tree.spare ≡ Some (node_of services.old.answer.performer)) }

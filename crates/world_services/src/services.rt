@@ -28,9 +28,9 @@ use uvm_tree::{NodeId, Tree};
 use world_sequencing::arbiters::{Arbiters, passed_at};
 use world_sequencing::grant_indexes::GrantIndex;
 use world_sequencing::start_records::StartRecord;
-use world_state::fifo_states::FifoStates;
 use world_state::objections::Objections;
 use world_state::report_state::{ReportState, given_report_state};
+use world_wiring::fifo_states::FifoStates;
 
 /// How far the last answer is performed.
 #[derive(Drop)]

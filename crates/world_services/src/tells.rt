@@ -1,13 +1,11 @@
 //! Calls that the services schedule, and the ends of drains.
 
-ghost use Rattle.std.specs.Prelude.{◌≡◌, ◌++◌, List, not, filter, OnOk, [], ◌∷◌, Some, true, ◌<◌, ◌≤◌, IsOk};
+ghost use Rattle.std.specs.Prelude.{◌≡◌, OnOk, Some, ◌<◌, IsOk};
 ghost use Rattle.std.specs.List.{flat_map};
 ghost use Rattle.std.specs.Option.{option_to_list};
-ghost use Rattle.uvm_phase.specs.Dues.{in_order};
 ghost use Rattle.bench_history.specs.Dues.{caused_at, drain_from, due_from, call_of_passage};
-ghost use Rattle.bench_history.specs.EventTargets.{Event, is_drain_of};
-ghost use Rattle.uvm_acts.specs.declared.acts.Act.TheVariants.{Put, Take, Peek};
-ghost use Rattle.uvm_phase.specs.declared.agendas.Due.{Due};
+ghost use Rattle.bench_history.specs.EventTargets.{is_drain_of};
+ghost use Rattle.world_state.specs.Agendas.{Reschedules, Schedules};
 ghost use Rattle.world_state.specs.CallsMatch.{living_numbered, is_told};
 
 use crate::services::Services;
@@ -29,8 +27,7 @@ pub fn move_drains(
     began: Option<Due>,
     ended: Option<NodeId>,
 ) -> Result<(), AllocError>
-    ensures dues { OnOk result ((caused : List Event) → services.old.agenda.dues ≡ in_order caused →
-        services.new.agenda.dues ≡ in_order (flat_map (drain_from phase (caused_at place)) (option_to_list began) ++ filter (λ event. not (is_drain_of phase (option_to_list ended) event.owner)) caused)) }
+    ensures dues { OnOk result (Reschedules (flat_map (drain_from phase (caused_at place)) (option_to_list began)) (is_drain_of phase (option_to_list ended)) services.old.agenda.dues services.new.agenda.dues) }
     ensures rest { services.new ≡ record services.old { agenda = services.new.agenda } }
 {
     end_drain(&mut services.agenda, phase, ended);
@@ -52,8 +49,7 @@ pub fn move_drains(
 
 /// Schedules now the call that reports a completed transfer to its requester. The place of the entry is the cause. Errors: out of memory.
 pub fn tell_passed(services: &mut Services, place: u32, passage: &Passage) -> Result<(), AllocError>
-    ensures dues { OnOk result ((caused : List Event) → services.old.agenda.dues ≡ in_order caused →
-        services.new.agenda.dues ≡ in_order (due_from (Some (call_of_passage passage.now.kind passage.now)) passage.now.who (Some passage.now.phase) services.old.time (caused_at place) ++ caused)) }
+    ensures dues { OnOk result (Schedules (due_from (Some (call_of_passage passage.now.kind passage.now)) passage.now.who (Some passage.now.phase) services.old.time (caused_at place)) services.old.agenda.dues services.new.agenda.dues) }
     ensures rest { services.new ≡ record services.old { agenda = services.new.agenda } }
 {
     let (time, phase) = (services.time, Some(passage.phase));
@@ -75,8 +71,7 @@ fn call_of_passage(passage: &Passage) -> Call
 /// Schedules a call to the performer, in the phase of its action and at a time in ticks. The place of the entry is the cause. Errors: out
 /// of memory.
 pub fn tell(services: &mut Services, call: Call, time: u64, place: u32) -> Result<(), AllocError>
-    ensures dues { OnOk result ((caused : List Event) → services.old.agenda.dues ≡ in_order caused →
-        services.new.agenda.dues ≡ in_order (due_from (Some call) services.old.answer.performer services.old.answer.phase time (caused_at place) ++ caused)) }
+    ensures dues { OnOk result (Schedules (due_from (Some call) services.old.answer.performer services.old.answer.phase time (caused_at place)) services.old.agenda.dues services.new.agenda.dues) }
     ensures rest { services.new ≡ record services.old { agenda = services.new.agenda } }
 {
     let (performer, phase) = (services.answer.performer, services.answer.phase);
@@ -94,8 +89,7 @@ pub fn schedule_call(
     time: u64,
     place: u32,
 ) -> Result<(), AllocError>
-    ensures dues { OnOk result ((caused : List Event) → services.old.agenda.dues ≡ in_order caused →
-        services.new.agenda.dues ≡ in_order (due_from (Some call) who phase time (caused_at place) ++ caused)) }
+    ensures dues { OnOk result (Schedules (due_from (Some call) who phase time (caused_at place)) services.old.agenda.dues services.new.agenda.dues) }
     ensures rest { services.new ≡ record services.old { agenda = services.new.agenda } }
     ensures memory { 0 < services.old.agenda.spare → IsOk result }
 {
@@ -106,8 +100,7 @@ pub fn schedule_call(
 /// Schedules calls for the current time, each in its phase, except calls to sequences that have ended. The place of the entry is the cause,
 /// and the calls are numbered in their order. Errors: out of memory.
 pub fn tell_living(services: &mut Services, place: u32, calls: &[DueCall]) -> Result<(), AllocError>
-    ensures dues { OnOk result ((caused : List Event) → services.old.agenda.dues ≡ in_order caused →
-        services.new.agenda.dues ≡ in_order (living_numbered (is_told services.old.sequences.steps) services.old.time place 0 calls.now ++ caused)) }
+    ensures dues { OnOk result (Schedules (living_numbered (is_told services.old.sequences.steps) services.old.time place 0 calls.now) services.old.agenda.dues services.new.agenda.dues) }
     ensures rest { services.new ≡ record services.old { agenda = services.new.agenda } }
 {
     let time = services.time;

@@ -1,62 +1,43 @@
 -- The names of other crates and of this crate's specs that its proofs cite, passed on from one place. Declares nothing.
 pub use Rattle.bench_history.specs.Dues.{call_in, calls_numbered, caused_at, drain_from, due_events, event_in, is_of_one, is_open, with_drains, written_to}
 pub use Rattle.bench_history.specs.EventTargets.{Event, is_drain_of, who_of}
-pub use Rattle.bench_history.specs.History.{head_of, is_built, now_of, remaining_acts, rest_of, stage_of}
-pub use Rattle.bench_history.specs.Laws.{ConnectFollowsBuild, HasNotEnded, IsDrainDue, StaysWired, has_nothing_left, is_at_check, is_connect_last, is_in_connect, runs_connect}
-pub use Rattle.bench_history.specs.Next.{EachIsNext}
+pub use Rattle.bench_history.specs.History.{now_of}
+pub use Rattle.bench_history.specs.Laws.{HasNotEnded, IsDrainDue}
 pub use Rattle.bench_history.specs.Objections.{with_new}
-pub use Rattle.bench_history.specs.Passing.{FifoState, Request, fifo_state_with, is_no_put, is_put, is_take, is_waiting, passage_by, passage_in, puts_now, waiting_put, waiting_take, with_last}
-pub use Rattle.bench_history.specs.Ports.{if_sound}
 pub use Rattle.bench_history.specs.Reports.{action_command, severity_command, verbosity_command}
-pub use Rattle.bench_history.specs.Wires.{ends_connect, is_past_connect, unsound_port, with_both}
-unfoldable pub use Rattle.bench_history.specs.Wires.{node_below}
 pub use Rattle.bench_history.specs.declared.event_targets.DueCall.{DueCall}
 pub use Rattle.bench_history.specs.declared.event_targets.EventTarget.TheVariants.{Object}
 pub use Rattle.bench_history.specs.declared.event_targets.EventTarget.{EventTarget}
-pub use Rattle.bench_history.specs.declared.requesters.Requester.{Requester}
-pub use Rattle.bench_history.specs.declared.stages.RunStage.TheVariants.{During}
-pub use Rattle.bench_history.specs.declared.stages.RunStage.{RunStage}
 pub use Rattle.bench_script.specs.Scripts.{ScriptValue}
 unfoldable pub use Rattle.script_tables.specs.Drains.{CanDrain}
 pub use Rattle.script_tables.specs.Drains.{drain_given, is_drain_at}
 pub use Rattle.script_tables.specs.declared.drains.Drain.{Drain}
-pub use Rattle.std.proofs.Common.{All, Bool, Contains, Err, IfSome, IsPermutation, List, None, Ok, OnErr, OnSome, Option, Result, Some, [], add-one, ap, append_assoc, arith, drop, false, filter, find, get_or, if◌then◌else◌, inl, inr, is_none, length, length-append, map, nat_eq, nat_lt, not, option_and_then, option_map, refl, reverse, rules, slice_get, slice_set, subst, suc, sym, take, true, unwrap_or, zero, ℕ, ◌&&◌, ◌++◌, ◌+◌, ◌-◌, ◌<◌, ◌==◌, ◌||◌, ◌∙◌, ◌∷◌, ◌≡◌, ◌≢◌, ◌≤◌, ◌⊎◌}
+pub use Rattle.std.proofs.Common.{All, Bool, Contains, Err, IfSome, List, None, Ok, OnErr, Option, Result, Some, [], add-one, ap, append_assoc, arith, drop, false, filter, find, get_or, if◌then◌else◌, inl, inr, length, length-append, map, nat_eq, nat_lt, not, option_map, refl, reverse, rules, slice_get, slice_set, subst, suc, sym, take, true, zero, ℕ, ◌&&◌, ◌++◌, ◌+◌, ◌-◌, ◌<◌, ◌==◌, ◌||◌, ◌∙◌, ◌∷◌, ◌≡◌, ◌≢◌, ◌≤◌, ◌⊎◌}
 pub use Rattle.std.proofs.Math.Seq.{drop-cons, take-suc}
 pub use Rattle.std.proofs.lemmas.Bool.Decides.{nat_tests}
-pub use Rattle.std.proofs.lemmas.Fn.{filter_same}
-pub use Rattle.std.proofs.lemmas.List.Elements.{All-append, All-cons, All-contains, All-filter, All-get_or, All-head, All-nil, All-push, All-tail, All-weaker, filter-append}
-pub use Rattle.std.proofs.lemmas.List.Folds.{list_any-append, list_any_none}
-pub use Rattle.std.proofs.lemmas.List.FromFn.{get_or-range_with_len, length-range_with_len}
+pub use Rattle.std.proofs.lemmas.List.Elements.{All-append, All-cons, All-filter, All-get_or, All-head, All-nil, All-tail, All-weaker}
+pub use Rattle.std.proofs.lemmas.List.Folds.{list_any_none}
 pub use Rattle.std.proofs.lemmas.List.Kept.{AllPairs-cons, AllPairs-filter}
-pub use Rattle.std.proofs.lemmas.List.Quantifiers.{all_pairs_push}
-pub use Rattle.std.proofs.lemmas.List.Sorted.{All-permutation, IsPermutation-sym}
-pub use Rattle.std.proofs.lemmas.List.{drop-append-le, drop-drop, get_or_default, length-drop, length-map, map-append, reverse-append, take_all, take_more}
-pub use Rattle.std.proofs.lemmas.Map.Keys.{IsDistinct-IsPermutation, IsDistinct-cons, IsDistinct-head, IsDistinct-tail}
-pub use Rattle.std.proofs.lemmas.Map.Made.{Contains-tail, lookup-map_values, map_same_pairs}
+pub use Rattle.std.proofs.lemmas.List.Sorted.{All-permutation}
+pub use Rattle.std.proofs.lemmas.List.{length-map, map-append, reverse-append, take_all, take_more}
+pub use Rattle.std.proofs.lemmas.Map.Keys.{IsDistinct-head, IsDistinct-tail}
+pub use Rattle.std.proofs.lemmas.Map.Made.{Contains-tail}
 pub use Rattle.std.proofs.lemmas.Option.{slice_get_cases, slice_get_past, slice_get_read}
 pub use Rattle.std.specs.Bool.{IsTrue}
 pub use Rattle.std.specs.Cmp.Lexicographic.{pointwise}
 pub use Rattle.std.specs.Fmt.{decimal}
-pub use Rattle.std.specs.HashMap.{get}
-pub use Rattle.std.specs.List.{AllByRecursion, AllPairs, cons_option, filter_map, flat_map, list_any, range_with_len}
+pub use Rattle.std.specs.List.{AllByRecursion, AllPairs, cons_option, filter_map, flat_map, list_any}
 unfoldable pub use Rattle.std.specs.List.{IsDistinct}
-pub use Rattle.std.specs.Map.{lookup}
-pub use Rattle.std.specs.Option.{ForSome, option_map_or, option_or, option_to_list}
+pub use Rattle.std.specs.Option.{option_map_or, option_or, option_to_list}
 pub use Rattle.std.specs.Prelude.{codes}
 pub use Rattle.uvm_acts.specs.Acts.{node_of}
-pub use Rattle.uvm_acts.specs.declared.acts.Act.{Act}
 pub use Rattle.uvm_acts.specs.declared.acts.Call.{Call}
 pub use Rattle.uvm_acts.specs.declared.acts.Who.TheVariants.{Sequence}
 pub use Rattle.uvm_acts.specs.declared.acts.Who.{Who}
-pub use Rattle.uvm_glob.specs.Faults.{fault_if}
 pub use Rattle.uvm_glob.specs.Lists.{first_given}
-pub use Rattle.uvm_glob.specs.Paths.{path_fault}
 pub use Rattle.uvm_object.specs.Objects.{same_who}
-pub use Rattle.uvm_object.specs.declared.entries.Entry.TheVariants.{Did}
 pub use Rattle.uvm_object.specs.declared.entries.Entry.{Entry}
 pub use Rattle.uvm_object.specs.declared.entries.Origin.{Origin}
-pub use Rattle.uvm_object.specs.declared.entries.Outcome.{Outcome}
-pub use Rattle.uvm_object.specs.declared.entries.Passage.{Passage}
 pub use Rattle.uvm_objection.specs.Laws.{AreNodes, GrowsBy, IsHeldUntilDue, NodesGrow, PlacesStay, SettledGoByTotals, places}
 pub use Rattle.uvm_objection.specs.Nodes.{Node, ObjectionValue, changed_at, drain_of, dropped, due_of, held_of, is_known, new_node, raised, released, top, with_drain}
 pub use Rattle.uvm_objection.specs.Totals.{drains_begun, drains_ended, held_after, settled, total}
@@ -73,22 +54,11 @@ pub use Rattle.uvm_report.specs.Plain.{plain-none}
 pub use Rattle.uvm_report.specs.Severities.{severity_text}
 pub use Rattle.uvm_report.specs.declared.messages.Fate.{Fate}
 pub use Rattle.uvm_report.specs.declared.severities.Severity.{Severity}
-pub use Rattle.uvm_tlm.specs.Fifos.{first_put, first_take, has_room}
-unfoldable pub use Rattle.uvm_tlm.specs.Fifos.{next_move}
-pub use Rattle.uvm_tlm.specs.Wirings.{IsPathOrder, WiringValue, connections_among, end_at, is_closed, is_connected, late_fault, with_end}
-pub use Rattle.uvm_tlm.specs.declared.ends.End.{End}
-pub use Rattle.uvm_tlm.specs.declared.faults.WireFault.TheVariants.{Late}
-pub use Rattle.uvm_tlm.specs.declared.fifos.MoveKind.TheVariants.{Peek, Put, Take}
 pub use Rattle.uvm_tlm.specs.declared.items.Item.{Item}
-pub use Rattle.uvm_tree.specs.Cursors.{numbers_of}
-pub use Rattle.uvm_tree.specs.Nodes.{number_at, path_at, under_at}
-pub use Rattle.uvm_tree.specs.Sorted.{AreInPathOrder, path_order}
+pub use Rattle.uvm_tree.specs.Nodes.{under_at}
 pub use Rattle.world_state.specs.Agendas.{IsAgenda}
 pub use Rattle.world_state.specs.CallsMatch.{if_told, is_told, living_numbered}
-pub use Rattle.world_state.specs.FifoStates.{ChangesAt, FifoMap, StoresAll, after_passage, passing_in, stored_once, with_putter, with_stored_if, with_taker, without_first_if, without_waits}
-pub use Rattle.world_state.specs.FifosMatch.{AreAsked}
 pub use Rattle.world_state.specs.ObjectionsMatch.{AreEvents, AreNumbered, IsDrainEvent, IsEvent, IsObjecting}
 pub use Rattle.world_state.specs.Phased.{HasOwnPlace, ObjectionsValue, OthersStayAt, given_by, nodes_at, nodes_in, one_at, place_in, spare_at}
 pub use Rattle.world_state.specs.ReportsMatch.{IsReportState}
-pub use Rattle.world_state.specs.WiringMatch.{IsAtNode, IsClosedPast, IsClosing, IsConnecting, closed_after}
 pub use Rattle.world_state.specs.declared.report_state.ReportState.{ReportState}

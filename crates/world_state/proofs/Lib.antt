@@ -1,17 +1,12 @@
 pub mod Common
-pub mod Connected
 pub mod Drained
-pub mod Found
 pub mod Given
 pub mod Listed
 pub mod Lists
 pub mod Objected
-pub mod Passed
 pub mod Placed
 pub mod Reported
 pub mod ReportsGiven
 pub mod Scheduled
 pub mod Shown
-pub mod Stored
-pub mod Waiting
 pub mod Written

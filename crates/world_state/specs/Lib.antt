@@ -1,10 +1,7 @@
 pub mod CallsMatch
 pub mod ObjectionsMatch
 pub mod Agendas
-pub mod FifosMatch
-pub mod FifoStates
 pub mod Faults
 pub mod Phased
 pub mod ReportsMatch
-pub mod WiringMatch
-pub mod Ports
+pub mod ReportLines

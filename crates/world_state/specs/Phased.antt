@@ -5,7 +5,8 @@ use Rattle.uvm_phase.specs.declared.phases.Phase.{Phase}
 use Rattle.uvm_phase.specs.Phases.{is_task, phase_number}
 use Rattle.script_tables.specs.declared.drains.Drain.{Drain}
 use Rattle.script_tables.specs.Drains.{CanDrain, drain_given, is_drain_at}
-use Rattle.uvm_objection.specs.Nodes.{ObjectionValue, new_node, with_drain}
+use Rattle.uvm_objection.specs.Nodes.{ObjectionValue, dropped, due_of, new_node, raised, released, with_drain}
+use Rattle.uvm_objection.specs.Totals.{settled, total}
 use Rattle.uvm_objection.specs.Nodes as objection
 
 -- the objection of a place: the one that is stored there, otherwise the second
@@ -52,6 +53,22 @@ HasOwn phase objections = HasOwnPlace (place_in phase) objections.each
 -- the objection of one phase may change, and no other
 abbrev pub OthersStay : Phase → ObjectionsValue → ObjectionsValue → Type 0
 OthersStay phase old new = (other : Phase) → (place_in phase == place_in other) ≡ false → nodes_in new other ≡ nodes_in old other
+
+-- no objection changes
+abbrev pub SameNodes : ObjectionsValue → ObjectionsValue → Type 0
+SameNodes old new = (phase : Phase) → nodes_in new phase ≡ nodes_in old phase
+
+-- the nodes after a raise at a node, at a time
+abbrev pub after_raise : ℕ → ℕ → ℕ → List objection.Node → List objection.Node
+after_raise time node count nodes = settled time (total nodes) (raised node count nodes)
+
+-- the nodes after a drop at a node, at a time
+abbrev pub after_drop : ℕ → ℕ → ℕ → List objection.Node → List objection.Node
+after_drop time node count nodes = settled time (total nodes) (dropped node count nodes)
+
+-- the nodes after the end of a node's drain, at the time when it is due
+abbrev pub after_drain : ℕ → List objection.Node → List objection.Node
+after_drain node nodes = settled (due_of node nodes) (total nodes) (released node nodes)
 
 -- a drain time of the script, if it is for this phase and this path, becomes that of the node
 abbrev pub given_by : Option Drain → Phase → List (List ℕ) → ℕ → List objection.Node → List objection.Node

@@ -1,13 +1,12 @@
 //! The events that are due: calls that entries cause, and the ends of drains.
 
-ghost use Rattle.std.specs.Prelude.{◌≡◌, ◌++◌, List, not, filter, IfOk, OnOk, ◌∷◌, [], true, ◌<◌, ◌≤◌, IsOk, Some};
+ghost use Rattle.std.specs.Prelude.{◌≡◌, IfOk, OnOk, ◌∷◌, [], true, ◌<◌, IsOk, Some};
 ghost use Rattle.std.specs.Option.{option_to_list};
-ghost use Rattle.uvm_phase.specs.Dues.{in_order};
 ghost use Rattle.bench_history.specs.Dues.{caused_at, is_of_one, event_in, calls_numbered};
-ghost use Rattle.bench_history.specs.EventTargets.{Event, is_drain_of};
+ghost use Rattle.bench_history.specs.EventTargets.{is_drain_of};
 ghost use Rattle.uvm_acts.specs.declared.acts.Act.TheVariants.{EndStep};
 ghost use Rattle.bench_history.specs.Refusals.{is_open_to};
-ghost use Rattle.uvm_phase.specs.declared.agendas.Due.{Due};
+ghost use Rattle.world_state.specs.Agendas.{Reschedules, Schedules};
 ghost use Rattle.world_state.specs.CallsMatch.{if_told, living_numbered, is_told};
 
 use bench_history::{DueCall, EventTarget};
@@ -21,8 +20,7 @@ use uvm_tree::NodeId;
 /// Removes the end of a drain from the agenda, if a drain has ended. `ended` is the node that delayed an objection by its drain time, and
 /// `phase` the phase of the objection.
 pub fn end_drain(agenda: &mut Agenda<EventTarget, EventCall>, phase: Phase, ended: Option<NodeId>)
-    ensures { (caused : List Event) → agenda.old.dues ≡ in_order caused →
-        agenda.new.dues ≡ in_order (filter (λ event. not (is_drain_of phase (option_to_list ended) event.owner)) caused) }
+    ensures { Reschedules [] (is_drain_of phase (option_to_list ended)) agenda.old.dues agenda.new.dues }
 {
     agendas::order_keeps_filters::<EventTarget, EventCall>();
     if let Some(node) = ended {
@@ -33,8 +31,7 @@ pub fn end_drain(agenda: &mut Agenda<EventTarget, EventCall>, phase: Phase, ende
 /// Removes all events whose target is a sequence that has finished.
 pub fn cancel(agenda: &mut Agenda<EventTarget, EventCall>, performer: Who)
     requires { is_open_to EndStep performer ≡ true }
-    ensures { (caused : List Event) → agenda.old.dues ≡ in_order caused →
-        agenda.new.dues ≡ in_order (filter (λ event. not (is_of_one (performer ∷ []) event.owner)) caused) }
+    ensures { Reschedules [] (is_of_one (performer ∷ [])) agenda.old.dues agenda.new.dues }
 {
     agendas::order_keeps_filters::<EventTarget, EventCall>();
     agenda.cancel(&EventTarget::Object(performer));
@@ -68,8 +65,7 @@ pub fn add_event<O: Copy + Eq + Hash + Drop, N: Drop>(
     owner: O,
     notice: N,
 ) -> Result<(), AllocError>
-    ensures dues { OnOk result ((caused : List (Due O N)) → agenda.old.dues ≡ in_order caused →
-        agenda.new.dues ≡ in_order (event_in phase time cause owner notice ++ caused)) }
+    ensures dues { OnOk result (Schedules (event_in phase time cause owner notice) agenda.old.dues agenda.new.dues) }
     ensures memory { 0 < agenda.old.spare → IsOk result }
 {
     match phase {
@@ -88,8 +84,7 @@ pub fn add_call(
     who: Who,
     call: StoredCall,
 ) -> Result<(), AllocError>
-    ensures dues { OnOk result ((caused : List Event) → agenda.old.dues ≡ in_order caused →
-        agenda.new.dues ≡ in_order (event_in phase time cause (EventTarget.Object who) (Some call) ++ caused)) }
+    ensures dues { OnOk result (Schedules (event_in phase time cause (EventTarget.Object who) (Some call)) agenda.old.dues agenda.new.dues) }
     ensures memory { 0 < agenda.old.spare → IsOk result }
 {
     add_event(
@@ -111,8 +106,7 @@ pub fn tell_each(
     place: u32,
     calls: &[DueCall],
 ) -> Result<(), AllocError>
-    ensures { OnOk result ((caused : List Event) → agenda.old.dues ≡ in_order caused →
-        agenda.new.dues ≡ in_order (living_numbered (is_told sequences.now.steps) time place 0 calls.now ++ caused)) }
+    ensures { OnOk result (Schedules (living_numbered (is_told sequences.now.steps) time place 0 calls.now) agenda.old.dues agenda.new.dues) }
 {
     for (number, told) in calls.iter().enumerate() {
         let cause = numbered(place, number)?;
@@ -129,8 +123,7 @@ fn tell_if(
     cause: Cause,
     told: &DueCall,
 ) -> Result<(), AllocError>
-    ensures { OnOk result ((caused : List Event) → agenda.old.dues ≡ in_order caused →
-        agenda.new.dues ≡ in_order (if_told tells (event_in told.now.phase time cause (EventTarget.Object told.now.who) (Some told.now.call)) ++ caused)) }
+    ensures { OnOk result (Schedules (if_told tells (event_in told.now.phase time cause (EventTarget.Object told.now.who) (Some told.now.call))) agenda.old.dues agenda.new.dues) }
 {
     if !tells {
         return Ok(());
@@ -157,8 +150,7 @@ pub fn tell_all(
     place: u32,
     calls: &[DueCall],
 ) -> Result<(), AllocError>
-    ensures { OnOk result ((caused : List Event) → agenda.old.dues ≡ in_order caused →
-        agenda.new.dues ≡ in_order (calls_numbered time place 0 calls.now ++ caused)) }
+    ensures { OnOk result (Schedules (calls_numbered time place 0 calls.now) agenda.old.dues agenda.new.dues) }
 {
     for (number, told) in calls.iter().enumerate() {
         let cause = numbered(place, number)?;

@@ -4,9 +4,9 @@ ghost use Rattle.std.specs.Prelude.{◌≡◌, ◌≢◌, ◌∷◌, ◌++◌, �
 ghost use Rattle.std.specs.Option.{option_to_list};
 ghost use Rattle.script_tables.specs.Drains.{CanDrain};
 ghost use Rattle.uvm_phase.specs.Phases.{is_task};
-ghost use Rattle.uvm_objection.specs.Nodes.{dropped, held_of, due_of, is_known, new_node, raised, released, source_of, top, with_drain};
-ghost use Rattle.uvm_objection.specs.Totals.{drains_begun, drains_ended, settled, standing, total};
-ghost use Rattle.world_state.specs.Phased.{HasNode, HasOwn, OthersStay, OthersStayAt, given_by, nodes_at, nodes_in, place_in, spare_at, spare_in};
+ghost use Rattle.uvm_objection.specs.Nodes.{held_of, due_of, is_known, new_node, source_of, top, with_drain};
+ghost use Rattle.uvm_objection.specs.Totals.{drains_begun, drains_ended, standing, total};
+ghost use Rattle.world_state.specs.Phased.{HasNode, HasOwn, OthersStay, OthersStayAt, SameNodes, after_drain, after_drop, after_raise, given_by, nodes_at, nodes_in, place_in, spare_at, spare_in};
 
 use crate::faults::DropFault;
 use script_tables::Drain;
@@ -73,7 +73,7 @@ impl Objections {
     // Adds one more drain time, and separates the run-time phases if it is for one of them. Errors: out of memory. An error changes no node.
     fn take_in(&mut self, drain: &Drain) -> Result<(), AllocError>
         requires { CanDrain drain.now }
-        ensures nodes { (phase : Phase) → nodes_in self.new phase ≡ nodes_in self.old phase }
+        ensures nodes { SameNodes self.old self.new }
         ensures given { OnOk result (self.new.given ≡ self.old.given ++ drain.now ∷ []) }
     {
         self.own_place(drain.phase)?;
@@ -85,7 +85,7 @@ impl Objections {
     /// Reserves capacity for one more node in each objection, so that the next `add` allocates nothing; it never reduces reserved capacity.
     /// Errors: out of memory, only if no capacity was reserved. An error changes no node.
     pub fn reserve(&mut self) -> Result<(), AllocError>
-        ensures nodes { (phase : Phase) → nodes_in self.new phase ≡ nodes_in self.old phase }
+        ensures nodes { SameNodes self.old self.new }
         ensures spare { OnOk result ((phase : Phase) → 0 < spare_in self.new phase) }
         ensures room { ((phase : Phase) → 0 < spare_in self.old phase) → IsOk result }
         ensures kept { (phase : Phase) → spare_in self.old phase ≤ spare_in self.new phase }
@@ -103,7 +103,7 @@ impl Objections {
         requires unknown { (phase : Phase) → is_known node (nodes_in self.old phase) ≡ false }
         requires parent { (phase : Phase) → IsTrue (is_known parent (nodes_in self.old phase)) }
         ensures ok { OnOk result (HasNode node parent path.now self.old self.new) }
-        ensures err { OnErr result ((phase : Phase) → nodes_in self.new phase ≡ nodes_in self.old phase) }
+        ensures err { OnErr result (SameNodes self.old self.new) }
         ensures room { ((phase : Phase) → 0 < spare_in self.old phase) → IsOk result }
         ensures given { self.new.given ≡ self.old.given }
     {
@@ -219,12 +219,12 @@ impl Objections {
     ) -> Result<Option<NodeId>, AllocError>
         requires known { IsTrue (is_known node (nodes_in self.old phase)) }
         requires limit { total (nodes_in self.old phase) 0 + count ≤ 10 ^ 18 }
-        ensures nodes { OnOk result ((time : ℕ) → nodes_in self.new phase ≡ settled time (total (nodes_in self.old phase)) (raised node count (nodes_in self.old phase))) }
+        ensures nodes { OnOk result ((time : ℕ) → nodes_in self.new phase ≡ after_raise time node count (nodes_in self.old phase)) }
         ensures began { OnOk result (drains_begun (nodes_in self.old phase) (nodes_in self.new phase) ≡ []) }
         ensures ended { IfOk result (λ ended. drains_ended (nodes_in self.old phase) (nodes_in self.new phase) ≡ option_to_list ended) }
         ensures others { OthersStay phase self.old self.new }
         ensures given { self.new.given ≡ self.old.given }
-        ensures err { OnErr result ((one : Phase) → nodes_in self.new one ≡ nodes_in self.old one) }
+        ensures err { OnErr result (SameNodes self.old self.new) }
         ensures room { HasOwn phase self.old → IsOk result }
     {
         let place = self.own_place(phase)?;
@@ -247,7 +247,7 @@ impl Objections {
         requires known { IsTrue (is_known node (nodes_in self.old phase)) }
         requires limit { now ≤ 10 ^ 18 }
         ensures ok { OnOk result (count ≤ source_of node (nodes_in self.old phase)) }
-        ensures nodes { OnOk result (nodes_in self.new phase ≡ settled now (total (nodes_in self.old phase)) (dropped node count (nodes_in self.old phase))) }
+        ensures nodes { OnOk result (nodes_in self.new phase ≡ after_drop now node count (nodes_in self.old phase)) }
         ensures began { IfOk result (λ due. drains_begun (nodes_in self.old phase) (nodes_in self.new phase) ≡ option_to_list due) }
         ensures ended { OnOk result (drains_ended (nodes_in self.old phase) (nodes_in self.new phase) ≡ []) }
         ensures below { result ≡ Err DropFault.BelowZero → source_of node (nodes_in self.old phase) < count }
@@ -255,7 +255,7 @@ impl Objections {
         ensures memory { result ≡ Err DropFault.Memory → count ≤ source_of node (nodes_in self.old phase) }
         ensures others { OthersStay phase self.old self.new }
         ensures given { self.new.given ≡ self.old.given }
-        ensures err { OnErr result ((one : Phase) → nodes_in self.new one ≡ nodes_in self.old one) }
+        ensures err { OnErr result (SameNodes self.old self.new) }
         ensures room { HasOwn phase self.old → result ≢ Err DropFault.Memory }
     {
         if self.objection(phase).source(node) < u64::from(count) {
@@ -277,12 +277,12 @@ impl Objections {
         requires known { IsTrue (is_known node (nodes_in self.old phase)) }
         requires held { 0 < held_of node (nodes_in self.old phase) }
         requires limit { due_of node (nodes_in self.old phase) ≤ 10 ^ 18 }
-        ensures nodes { OnOk result (nodes_in self.new phase ≡ settled (due_of node (nodes_in self.old phase)) (total (nodes_in self.old phase)) (released node (nodes_in self.old phase))) }
+        ensures nodes { OnOk result (nodes_in self.new phase ≡ after_drain node (nodes_in self.old phase)) }
         ensures began { IfOk result (λ due. drains_begun (nodes_in self.old phase) (nodes_in self.new phase) ≡ option_to_list due) }
         ensures ended { OnOk result (drains_ended (nodes_in self.old phase) (nodes_in self.new phase) ≡ node ∷ []) }
         ensures others { OthersStay phase self.old self.new }
         ensures given { self.new.given ≡ self.old.given }
-        ensures err { OnErr result ((one : Phase) → nodes_in self.new one ≡ nodes_in self.old one) }
+        ensures err { OnErr result (SameNodes self.old self.new) }
         ensures room { HasOwn phase self.old → IsOk result }
     {
         let place = self.own_place(phase)?;
@@ -300,7 +300,7 @@ impl Objections {
         ensures nodes { OnOk result (nodes_in self.new phase ≡ with_drain node ticks (nodes_in self.old phase)) }
         ensures others { OthersStay phase self.old self.new }
         ensures given { self.new.given ≡ self.old.given }
-        ensures err { OnErr result ((one : Phase) → nodes_in self.new one ≡ nodes_in self.old one) }
+        ensures err { OnErr result (SameNodes self.old self.new) }
         ensures room { HasOwn phase self.old → IsOk result }
     {
         let place = self.own_place(phase)?;
@@ -331,7 +331,7 @@ impl Objections {
     // Separates the run-time phases if `phase` is one of them, and returns the place of its objection, which no other phase shares then.
     // Errors: out of memory. An error changes no node.
     fn own_place(&mut self, phase: Phase) -> Result<usize, AllocError>
-        ensures nodes { (one : Phase) → nodes_in self.new one ≡ nodes_in self.old one }
+        ensures nodes { SameNodes self.old self.new }
         ensures place { IfOk result (λ place. place ≡ place_in phase) }
         ensures within { IfOk result (λ place. place < length self.new.each) }
         ensures own { OnOk result (HasOwn phase self.new) }

@@ -1,14 +1,9 @@
 //! The transcript lines of reports (IEEE 1800.2-2020, Clause 6).
 
-ghost use Rattle.std.specs.Prelude.{◌≡◌, ◌≢◌, ◌++◌, [], Some, OnOk, OnErr};
+ghost use Rattle.std.specs.Prelude.{◌≡◌, ◌≢◌, ◌++◌, [], OnOk, OnErr};
 ghost use Rattle.uvm_glob.specs.Printed.{IsPrinted};
-ghost use Rattle.uvm_report.specs.Lines.{report_line};
 ghost use Rattle.uvm_report.specs.Plain.{ArePlainLines};
-ghost use Rattle.uvm_tree.specs.Nodes.{path_at};
-ghost use Rattle.uvm_acts.specs.Acts.{node_of};
-ghost use Rattle.uvm_object.specs.Fatals.{fatal_report};
-ghost use Rattle.uvm_object.specs.Sources.{shown_path, source_text};
-ghost use Rattle.bench_history.specs.Reports.{outcome_command, line_under};
+ghost use Rattle.world_state.specs.ReportLines.{act_line, line_at, note_line, source_at};
 
 use std::alloc::{AllocError, Global};
 use uvm_object::{Act, Fatal, Outcome, Who, shown_path, source_of};
@@ -38,10 +33,10 @@ impl ReportSite<'_> {
         act: &Act,
         out: &mut Vec<u8>,
     ) -> Result<(), AllocError>
-        ensures ok { OnOk result (out.new.items ≡ out.old.items ++ line_under self.now.time (source_text self.now.tree.now.nodes self.now.sequences.now.started who.now) (outcome_command (path_at self.now.tree.now.nodes (node_of who.now)) outcome.now act.now) (Some self.now.severity)) }
+        ensures ok { OnOk result (out.new.items ≡ out.old.items ++ act_line self.now who.now outcome.now act.now) }
         ensures err { OnErr result (out.new.items ≡ out.old.items) }
-        ensures plain { OnOk result (ArePlainLines (line_under self.now.time (source_text self.now.tree.now.nodes self.now.sequences.now.started who.now) (outcome_command (path_at self.now.tree.now.nodes (node_of who.now)) outcome.now act.now) (Some self.now.severity))) }
-        ensures some { OnErr result (line_under self.now.time (source_text self.now.tree.now.nodes self.now.sequences.now.started who.now) (outcome_command (path_at self.now.tree.now.nodes (node_of who.now)) outcome.now act.now) (Some self.now.severity) ≢ []) }
+        ensures plain { OnOk result (ArePlainLines (act_line self.now who.now outcome.now act.now)) }
+        ensures some { OnErr result (act_line self.now who.now outcome.now act.now ≢ []) }
     {
         match (outcome, act) {
             (Outcome::Refused(fatal), _) => self.push_own(who, &fatal.report(self.alloc)?, out),
@@ -58,10 +53,10 @@ impl ReportSite<'_> {
         node: NodeId,
         out: &mut Vec<u8>,
     ) -> Result<(), AllocError>
-        ensures ok { OnOk result (out.new.items ≡ out.old.items ++ report_line self.now.severity self.now.time (shown_path (path_at self.now.tree.now.nodes node)) (fatal_report fatal.now).id (fatal_report fatal.now).text) }
+        ensures ok { OnOk result (out.new.items ≡ out.old.items ++ note_line self.now fatal.now node) }
         ensures err { OnErr result (out.new.items ≡ out.old.items) }
-        ensures plain { OnOk result (ArePlainLines (report_line self.now.severity self.now.time (shown_path (path_at self.now.tree.now.nodes node)) (fatal_report fatal.now).id (fatal_report fatal.now).text)) }
-        ensures some { OnErr result (report_line self.now.severity self.now.time (shown_path (path_at self.now.tree.now.nodes node)) (fatal_report fatal.now).id (fatal_report fatal.now).text ≢ []) }
+        ensures plain { OnOk result (ArePlainLines (note_line self.now fatal.now node)) }
+        ensures some { OnErr result (note_line self.now fatal.now node ≢ []) }
     {
         let source = shown_path(node, self.tree);
         self.push_line(source, &fatal.report(self.alloc)?, out)
@@ -69,9 +64,9 @@ impl ReportSite<'_> {
 
     // Appends the line of a report whose source is `who`. Errors: out of memory. An error appends nothing.
     fn push_own(&self, who: &Who, report: &Report, out: &mut Vec<u8>) -> Result<(), AllocError>
-        ensures ok { OnOk result (out.new.items ≡ out.old.items ++ report_line self.now.severity self.now.time (source_text self.now.tree.now.nodes self.now.sequences.now.started who.now) report.now.id report.now.text) }
+        ensures ok { OnOk result (out.new.items ≡ out.old.items ++ line_at self.now (source_at self.now who.now) report.now) }
         ensures err { OnErr result (out.new.items ≡ out.old.items) }
-        ensures plain { OnOk result (ArePlainLines (report_line self.now.severity self.now.time (source_text self.now.tree.now.nodes self.now.sequences.now.started who.now) report.now.id report.now.text)) }
+        ensures plain { OnOk result (ArePlainLines (line_at self.now (source_at self.now who.now) report.now)) }
     {
         let source = source_of(self.alloc, who, self.tree, self.sequences)?;
         self.push_line(source.as_slice(), report, out)
@@ -79,9 +74,9 @@ impl ReportSite<'_> {
 
     // Appends the line of a report from a source. Errors: out of memory. An error appends nothing.
     fn push_line(&self, source: &[u8], report: &Report, out: &mut Vec<u8>) -> Result<(), AllocError>
-        ensures ok { OnOk result (out.new.items ≡ out.old.items ++ report_line self.now.severity self.now.time source.now report.now.id report.now.text) }
+        ensures ok { OnOk result (out.new.items ≡ out.old.items ++ line_at self.now source.now report.now) }
         ensures err { OnErr result (out.new.items ≡ out.old.items) }
-        ensures plain { IsPrinted source.now → OnOk result (ArePlainLines (report_line self.now.severity self.now.time source.now report.now.id report.now.text)) }
+        ensures plain { IsPrinted source.now → OnOk result (ArePlainLines (line_at self.now source.now report.now)) }
     {
         report.write_line(self.severity, self.time, source, out)
     }

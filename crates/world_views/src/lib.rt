@@ -8,3 +8,4 @@ pub mod services;
 pub mod status;
 
 pub use bench_world::World;
+pub use bench_world::pending::PendingCall;

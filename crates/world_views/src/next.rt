@@ -19,7 +19,7 @@ use uvm_phase::{Due, Phase};
 use uvm_sequences::SeqId;
 use uvm_tree::{NodeId, laws as trees};
 use world_sequencing::arbiters::{first_locked, first_served};
-use world_state::fifo_states::first_passing;
+use world_wiring::fifo_states::first_passing;
 
 /// Returns the first event that is due at the current time: a call to its target, or the end of a drain. Requires a consistent world.
 #[tactic(auto, unfolding(bench_history::specs::Dues::due_now))]

@@ -5,13 +5,13 @@ ghost use Rattle.bench_history.specs.Effects.{permitted_effect, refusal_in, effe
 ghost use Rattle.bench_world.specs.Worlds.{IsMaking};
 ghost use Rattle.uvm_acts.specs.declared.acts.Act.TheVariants.{Create};
 ghost use Rattle.world_sequencing.specs.SequencesMatch.{IsStart};
-ghost use Rattle.world_services.specs.Creations.{IsUnmade, MayWantMemoryFor};
+ghost use Rattle.world_services.specs.Creations.{IsUnmade, MayRunOutFor};
 
 use bench_world::World;
 use std::alloc::AllocError;
 use uvm_glob::Name;
 use uvm_object::{Act, Fatal, Who};
-use world_acts::sequencers::starts::what_is_started;
+use world_acts_sequencers::starts::what_is_started;
 use world_services::act_results::is_open_to;
 use world_services::creations::{CreationError, what_is_created};
 
@@ -22,7 +22,7 @@ pub fn refusal(world: &World, performer: &Who, act: &Act) -> Result<Option<Fatal
     requires sound { world.now.sound ≡ true }
     requires makes { IsMaking act.now }
     ensures ok { IfOk result (λ refusal. refusal ≡ refusal_in (effect_of world.now.script world.now.history performer.now act.now)) }
-    ensures err { OnErr result (MayWantMemoryFor act.now (refusal_in (effect_of world.now.script world.now.history performer.now act.now))) }
+    ensures err { OnErr result (MayRunOutFor act.now (refusal_in (effect_of world.now.script world.now.history performer.now act.now))) }
 {
     if !is_open_to(act, performer) {
         return Ok(Some(Fatal::NotOpen));

@@ -15,7 +15,7 @@ ghost use Rattle.uvm_sequences.specs.Sequences.{step_at};
 ghost use Rattle.uvm_tlm.specs.Wirings.{is_closed};
 ghost use Rattle.world_state.specs.Phased.{nodes_in};
 ghost use Rattle.world_services.specs.Services.{IsFactory, IsSettings};
-ghost use Rattle.world_state.specs.WiringMatch.{IsConnecting};
+ghost use Rattle.world_wiring.specs.WiringMatch.{IsConnecting};
 
 use bench_history::EventTarget;
 use bench_world::World;

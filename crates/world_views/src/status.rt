@@ -20,7 +20,7 @@ use uvm_phase::Phase;
 use uvm_report::Fate;
 use uvm_tree::NodeId;
 use world_sequencing::arbiters::requests_at;
-use world_state::fifo_states::waiting_at;
+use world_wiring::fifo_states::waiting_at;
 
 /// Returns the stage of the run. Requires a consistent world.
 pub fn stage(world: &World) -> RunStage

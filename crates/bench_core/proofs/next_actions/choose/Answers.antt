@@ -16,7 +16,7 @@ returns-in-Some-next_served c =
     record {
       choice = (search rules, chosen_at world.history _, serves-next world.script world.history _ _ on going unlocked cc);
       err = tt;
-      unchanged = refl;
+      after = refl;
     }
 
 pub returns-then-is_passing : goal.returns-then-is_passing
@@ -30,5 +30,5 @@ returns-then-is_passing c =
     record {
       choice = (search rules, passes.0, passes.1, passes.2);
       err = tt;
-      unchanged = refl;
+      after = refl;
     }

@@ -2,7 +2,7 @@ use Rattle.std.proofs.Common.{◌⊎◌, ℕ, List, Option, inl, inr, map}
 use Rattle.std.specs.String.{string_bytes}
 use Rattle.clap.specs.Words.{Text}
 use Rattle.bus_bench.specs.Program.{DidJob, DidNothing, GaveText, IsServed}
-use Rattle.bus_bench.proofs.Told.{told}
+use Rattle.bus_bench.proofs.NoJob.{told}
 use Rattle.bus_bench.proofs.program.run.Goals as goal
 
 -- some words were served

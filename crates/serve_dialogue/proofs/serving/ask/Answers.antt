@@ -18,7 +18,7 @@ returns-in-Err-clause-err g c =
       asked = subst (λ text. g.C.Client.spoke c.args.client.now c.send.new.client (said text)) asked c.in_ok-send.ensures.ok;
       marked = call_marks answers core.standing core.script core.history c.args.who.now asks.call asks.origin _ asks.stands asks.comes bare c.in_ok-push_ask.ensures.marked c.requires.backs c.requires.marked;
       line_stays = c.send.ensures.count;
-      flaw =
+      violation =
           subst (λ (comes : next.Next). IsViolation g.C.Client.spoke g.C.Client.ended g.C.Client.line answers comes c.in-Err.error c.send.new.client c.read_acts.new.self) (sym (client_call answers core.script core.history c.args.who.now asks.call asks.origin asks.comes bare))
           c.in-Err.ensures.err;
       number = c.in-Err.ensures.number;

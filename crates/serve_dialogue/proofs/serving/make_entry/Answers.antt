@@ -1,6 +1,6 @@
 use Rattle.serve_dialogue.proofs.Common.{◌∙◌, ap, inl, rules, Asked, CoreValue, Needed, SeatsValue}
 use Rattle.serve_dialogue.proofs.Asks.{error_comes, memory_ran_out}
-use Rattle.serve_dialogue.proofs.Turns.{asked_follow, asked_grows, asked_halts, asked_seated, asks, asks_next, leaver_left, moved_follow, moved_grows, needs, over_ends}
+use Rattle.serve_dialogue.proofs.NextTurns.{asked_follow, asked_grows, asked_halts, asked_seated, asks, asks_next, leaver_left, moved_follow, moved_grows, needs, over_ends}
 use Rattle.serve_dialogue.proofs.serving.make_entry.Goals as goal
 
 pub returns-in-Ok-Moved-clause-ok : goal.returns-in-Ok-Moved-clause-ok

@@ -1,5 +1,5 @@
 use Rattle.serve_dialogue.proofs.Common.{◌≡◌, ◌++◌, length, AreMarkedLines, backs_of}
-use Rattle.serve_dialogue.proofs.Turns.{notices_of}
+use Rattle.serve_dialogue.proofs.NextTurns.{notices_of}
 use Rattle.serve_dialogue.proofs.serving.make_entry.Given as goal
 
 -- only sequences that have ended were told: the text has their notices; nothing was said, and no number drawn

@@ -7,6 +7,6 @@ returns-in_ok-enter-in-Completed-clause-ok c = record {
   kept = c.perform.new.services;
   performed = rw (c.in-Completed.is, c.get.ensures, c.act.ensures, c.next_place.ensures) at c.in_ok-act_result.ensures;
   entries = c.in_ok-enter-in-Completed.ensures.ok;
-  leaves = c.in_ok-leaving-in-Completed.ensures;
+  leaves = c.in_ok-ended-in-Completed.ensures;
   done = ap (λ (a : AnswerCursor). record c.perform.new.services { answer = a }) c.in_ok-enter-in-Completed.ensures.answer;
 }

@@ -1,7 +1,7 @@
 use Rattle.std.proofs.Common.{◌≡◌, length, ap, map, ◌∙◌, sym, refl, List, [], ◌∷◌, ℕ, arith}
 use Rattle.std.proofs.lemmas.Bool.{eqb-true}
 use Rattle.uvm_glob.specs.Lists.{first_given}
-use Rattle.world_state.specs.FifoStates.{passing_in}
+use Rattle.world_wiring.specs.FifoStates.{passing_in}
 use Rattle.world_services.proofs.Passages.{next-known}
 use Rattle.world_views.proofs.next.is_passing.Goals as goal
 

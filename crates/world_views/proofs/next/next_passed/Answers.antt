@@ -1,6 +1,6 @@
 use Rattle.std.proofs.Common.{ap, map, ◌∙◌, List, ℕ}
 use Rattle.uvm_glob.specs.Lists.{first_given}
-use Rattle.world_state.specs.FifoStates.{passing_in}
+use Rattle.world_wiring.specs.FifoStates.{passing_in}
 use Rattle.world_services.proofs.Passages.{next-known}
 use Rattle.world_views.proofs.next.next_passed.Goals as goal
 

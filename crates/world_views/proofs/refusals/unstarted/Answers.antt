@@ -6,7 +6,7 @@ use Rattle.bench_history.specs.Refusals.{Starting}
 use Rattle.bench_history.specs.Sequences.{sequences_of}
 use Rattle.bench_history.specs.Effects.{refusal_in, starting_effect}
 use Rattle.world_services.specs.Creations.{IsUnmade, starting_in}
-use Rattle.world_acts.proofs.Begun.{starting-known}
+use Rattle.world_acts_sequencers.proofs.Begun.{starting-known}
 use Rattle.world_services.proofs.Creating.{unstarted-why}
 use Rattle.world_views.proofs.refusals.unstarted.Goals as goal
 

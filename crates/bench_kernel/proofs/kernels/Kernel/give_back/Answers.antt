@@ -1,4 +1,4 @@
-use Rattle.bench_kernel.proofs.Common.{nodes_of}
+use Rattle.bench_kernel.proofs.Common.{nodes_of, failed_of}
 use Rattle.bench_kernel.proofs.Given.{first-held, given-first, given-held, gives-component, gives-sequence}
 use Rattle.bench_kernel.proofs.Sitting.{first-sequence}
 use Rattle.bench_kernel.proofs.kernels.Kernel.give_back.Goals as goal
@@ -8,7 +8,7 @@ invariant_of-self g c =
     let m = g.O.UvmObject in
     let k = c.self.inside in
     let popped = c.pop_first.new.self in
-    gives-sequence m.view m.name m.says k.core k.failed k.unknown k.seats.taken k.sequences.count popped.count k.sequences.held popped.held c.in-Some.back
+    gives-sequence m.view m.name m.says k.core (failed_of k.abandoned k.unknown k.core.health) k.unknown k.seats.taken k.sequences.count popped.count k.sequences.held popped.held c.in-Some.back
     (rw (← c.self.view_is) at c.requires) c.pop_first.ensures.count c.in-Some.ensures.some c.self.invariant
 
 pub returns-in-Some-clause-some : goal.returns-in-Some-clause-some
@@ -26,7 +26,7 @@ invariant_of-self-2 g c =
     let m = g.O.UvmObject in
     let k = c.self.inside in
     let still = c.pop_first.new.self in
-    gives-component m.view m.name m.says k.core k.failed k.unknown k.seats.taken c.pop_first-2.new.self.taken k.sequences.count still.count k.sequences.held still.held c.pop_first-2.result
+    gives-component m.view m.name m.says k.core (failed_of k.abandoned k.unknown k.core.health) k.unknown k.seats.taken c.pop_first-2.new.self.taken k.sequences.count still.count k.sequences.held still.held c.pop_first-2.result
     (rw (← c.self.view_is) at c.requires) c.pop_first.ensures.count c.in_default.ensures.unchanged c.pop_first-2.ensures.some c.pop_first-2.ensures.unchanged c.self.invariant
 
 pub returns-clause-some : goal.returns-clause-some

@@ -1,14 +1,15 @@
-use Rattle.bench_world.proofs.Common.{Some, inl, refl, ◌∙◌, ap, sym, subst, Did, performer_of, IsAct, IsNext, outcome_made, answer-open, ok-not-err, wanted, wanted-need, AnswerCursor}
+use Rattle.bench_world.proofs.Common.{Some, inl, refl, ◌∙◌, ap, sym, subst, Did, performer_of, IsAct, IsNext, outcome_made, answer-open, ok-not-err, wanted, wanted-need, AnswerCursor, Creation}
+use Rattle.bench_world.proofs.Pendings.{creation-waits}
 use Rattle.bench_world.proofs.Going.{acted-on}
 use Rattle.bench_world.proofs.Makeable.{made-leaves, makeable}
 use Rattle.bench_world.proofs.worlds.World.made.Goals as goal
 
 pub make-who-requires : goal.make-who-requires
 make-who-requires c =
-    let is = sym c.take_parts.ensures.value ∙ c.in-Some.is in
-    let sound = c.self.invariant.1.waits c.in-Some.parts is in
+    let is = creation-waits _ _ (sym c.take_parts.ensures.value ∙ c.in-Some.is) in
+    let sound = c.self.invariant.1.waits (Creation c.in-Some.parts) is in
     let m = c.self.invariant.1.services_match sound in
-    let ready = c.self.invariant.1.ready c.in-Some.parts is in
+    let ready = c.self.invariant.1.ready (Creation c.in-Some.parts) is in
     let before = c.self.inside.log.entries in
     let act = c.in-Some.parts.stored_act in
     let w = wanted c.needs_are_wanted.ensures c.self.inside.script before act (rw ready.needed refl) ready.left in
@@ -18,27 +19,27 @@ make-who-requires c =
 
 pub enter-requires-clause-room : goal.enter-requires-clause-room
 enter-requires-clause-room c =
-    let ready = c.self.invariant.1.ready c.in-Some.parts (sym c.take_parts.ensures.value ∙ c.in-Some.is) in
+    let ready = c.self.invariant.1.ready (Creation c.in-Some.parts) (creation-waits _ _ (sym c.take_parts.ensures.value ∙ c.in-Some.is)) in
     rw c.self.invariant.1.limit ready.room
 
 pub enter-requires-clause-open : goal.enter-requires-clause-open
 enter-requires-clause-open c =
-    let is = sym c.take_parts.ensures.value ∙ c.in-Some.is in
-    let m = c.self.invariant.1.services_match (c.self.invariant.1.waits c.in-Some.parts is) in
-    let ready = c.self.invariant.1.ready c.in-Some.parts is in
+    let is = creation-waits _ _ (sym c.take_parts.ensures.value ∙ c.in-Some.is) in
+    let m = c.self.invariant.1.services_match (c.self.invariant.1.waits (Creation c.in-Some.parts) is) in
+    let ready = c.self.invariant.1.ready (Creation c.in-Some.parts) is in
     rw c.make-who.ensures.kept.same_answer (answer-open c.in-Some.parts.stored_act ready.left m.answer)
 
 pub unreachable-requires-in_default-enter : goal.unreachable-requires-in_default-enter
 unreachable-requires-in_default-enter c =
-    let ready = c.self.invariant.1.ready c.in-Some.parts (sym c.take_parts.ensures.value ∙ c.in-Some.is) in
+    let ready = c.self.invariant.1.ready (Creation c.in-Some.parts) (creation-waits _ _ (sym c.take_parts.ensures.value ∙ c.in-Some.is)) in
     ok-not-err c.enter.result c.in_default-enter.field-0 (c.enter.ensures.memory ready.has_room.log_spare) c.in_default-enter.is
 
 pub invariant_of-self : goal.invariant_of-self
 invariant_of-self c =
-    let is = sym c.take_parts.ensures.value ∙ c.in-Some.is in
-    let sound = c.self.invariant.1.waits c.in-Some.parts is in
+    let is = creation-waits _ _ (sym c.take_parts.ensures.value ∙ c.in-Some.is) in
+    let sound = c.self.invariant.1.waits (Creation c.in-Some.parts) is in
     let m = c.self.invariant.1.services_match sound in
-    let ready = c.self.invariant.1.ready c.in-Some.parts is in
+    let ready = c.self.invariant.1.ready (Creation c.in-Some.parts) is in
     let before = c.self.inside.log.entries in
     let services = c.self.inside.services in
     let act = c.in-Some.parts.stored_act in
@@ -56,10 +57,10 @@ invariant_of-self c =
 
 pub returns-clause-who : goal.returns-clause-who
 returns-clause-who c =
-    let is = sym c.take_parts.ensures.value ∙ c.in-Some.is in
-    let sound = c.self.invariant.1.waits c.in-Some.parts is in
+    let is = creation-waits _ _ (sym c.take_parts.ensures.value ∙ c.in-Some.is) in
+    let sound = c.self.invariant.1.waits (Creation c.in-Some.parts) is in
     let m = c.self.invariant.1.services_match sound in
-    let ready = c.self.invariant.1.ready c.in-Some.parts is in
+    let ready = c.self.invariant.1.ready (Creation c.in-Some.parts) is in
     let before = c.self.inside.log.entries in
     let act = c.in-Some.parts.stored_act in
     let w = wanted c.needs_are_wanted.ensures c.self.inside.script before act (rw ready.needed refl) ready.left in
@@ -70,10 +71,10 @@ returns-clause-who c =
 
 pub returns-clause-entry : goal.returns-clause-entry
 returns-clause-entry c =
-    let is = sym c.take_parts.ensures.value ∙ c.in-Some.is in
-    let sound = c.self.invariant.1.waits c.in-Some.parts is in
+    let is = creation-waits _ _ (sym c.take_parts.ensures.value ∙ c.in-Some.is) in
+    let sound = c.self.invariant.1.waits (Creation c.in-Some.parts) is in
     let m = c.self.invariant.1.services_match sound in
-    let ready = c.self.invariant.1.ready c.in-Some.parts is in
+    let ready = c.self.invariant.1.ready (Creation c.in-Some.parts) is in
     let before = c.self.inside.log.entries in
     let act = c.in-Some.parts.stored_act in
     let w = wanted c.needs_are_wanted.ensures c.self.inside.script before act (rw ready.needed refl) ready.left in

@@ -36,32 +36,32 @@ carry_out-requires-clause-open c =
     let r = rw (← c.self.view_is) at c.requires in
     answer-open c.args.stored_act r.left (c.self.invariant.1.services_match r.sound).answer
 
-pub invariant_of-self-in-Entered : goal.invariant_of-self-in-Entered
-invariant_of-self-in-Entered c =
+pub invariant_of-self-in-None : goal.invariant_of-self-in-None
+invariant_of-self-in-None c =
     let r = rw (← c.self.view_is) at c.requires in
-    let e = rw c.in-Entered.is at c.in_ok-leaving.ensures.ok in
-    performed e.outcome c.args.stored_act c.self.invariant r.sound r.room r.settled r.left r.next c.acts_are_in_phase.ensures c.performers_are_there.ensures c.drivers_are_there.ensures e.performed e.entries c.in_ok-leaving.ensures.limit e.leaves e.done
+    let e = rw c.in-None.is at c.in_ok-carry_out.ensures.ok in
+    performed e.outcome c.args.stored_act c.self.invariant r.sound r.room r.settled r.left r.next c.acts_are_in_phase.ensures c.performers_are_there.ensures c.drivers_are_there.ensures e.performed e.entries c.in_ok-carry_out.ensures.limit e.leaves e.done
 
-pub invariant_of-self-in-Waits : goal.invariant_of-self-in-Waits
-invariant_of-self-in-Waits c =
+pub invariant_of-self-in-Some : goal.invariant_of-self-in-Some
+invariant_of-self-in-Some c =
     let r = rw (← c.self.view_is) at c.requires in
-    let w = rw c.in-Waits.is at c.in_ok-leaving.ensures.ok in
-    waits c.args.stored_act c.in-Waits.pending c.self.invariant r.sound r.room r.settled r.left r.next c.acts_are_in_phase.ensures c.performers_are_there.ensures c.drivers_are_there.ensures w c.in_ok-leaving.ensures.limit
+    let w = rw c.in-Some.is at c.in_ok-carry_out.ensures.ok in
+    rw w.1 (waits c.args.stored_act c.in-Some.creation c.self.invariant r.sound r.room r.settled r.left r.next c.acts_are_in_phase.ensures c.performers_are_there.ensures c.drivers_are_there.ensures w.0 c.in_ok-carry_out.ensures.limit)
 
-pub returns-in-Entered-clause-ok : goal.returns-in-Entered-clause-ok
-returns-in-Entered-clause-ok c =
+pub returns-in-None-clause-ok : goal.returns-in-None-clause-ok
+returns-in-None-clause-ok c =
     let r = rw (← c.self.view_is) at c.requires in
     let m = c.self.invariant.1.services_match r.sound in
     let before = c.self.inside.log.entries in
-    let e = rw c.in-Entered.is at c.in_ok-leaving.ensures.ok in
+    let e = rw c.in-None.is at c.in_ok-carry_out.ensures.ok in
     let scene = scene-of c.args.stored_act m c.self.invariant.1.legal.each r.settled r.left c.acts_are_in_phase.ensures c.performers_are_there.ensures c.drivers_are_there.ensures (act-next c.self.inside.script before c.args.stored_act r.next) in
     rw (← c.self.view_is) (acted-enters c.self.inside.script c.self.inside.sound _ _ e r.next m.answer.performer scene r.sound)
 
-pub returns-in-Waits-clause-ok : goal.returns-in-Waits-clause-ok
-returns-in-Waits-clause-ok c =
+pub returns-in-Some-clause-ok : goal.returns-in-Some-clause-ok
+returns-in-Some-clause-ok c =
     let r = rw (← c.self.view_is) at c.requires in
     let m = c.self.invariant.1.services_match r.sound in
     let before = c.self.inside.log.entries in
-    let w = rw c.in-Waits.is at c.in_ok-leaving.ensures.ok in
+    let w = rw c.in-Some.is at c.in_ok-carry_out.ensures.ok in
     let scene = scene-of c.args.stored_act m c.self.invariant.1.legal.each r.settled r.left c.acts_are_in_phase.ensures c.performers_are_there.ensures c.drivers_are_there.ensures (act-next c.self.inside.script before c.args.stored_act r.next) in
-    rw (← c.self.view_is) (acted-needs c.self.inside.script before _ c.self.inside.sound _ r.next m.answer.performer (w.need.comes c.self.inside.script before scene) w.entries r.sound refl)
+    rw (← c.self.view_is) (acted-needs c.self.inside.script before _ c.self.inside.sound _ r.next m.answer.performer (w.0.need.comes c.self.inside.script before scene) w.0.entries r.sound refl)

@@ -1,5 +1,5 @@
 use Rattle.script_objects.proofs.Common.{option_map, lookup, object_after}
-use Rattle.script_objects.proofs.Whoever.{changes_at}
+use Rattle.script_objects.proofs.SeatChanges.{changes_at}
 use Rattle.script_objects.proofs.seats.ScriptedSeats.hear.Goals as goal
 
 -- the map changes at one key

@@ -1,5 +1,5 @@
 use Rattle.script_objects.proofs.Common.{Some}
-use Rattle.script_objects.proofs.Whoever.{changes_at}
+use Rattle.script_objects.proofs.SeatChanges.{changes_at}
 use Rattle.script_objects.proofs.seats.ScriptedSeats.insert_new.Goals as goal
 
 -- the map has one key more

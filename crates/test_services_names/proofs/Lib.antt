@@ -1,4 +1,0 @@
-mod MatchingRows
-mod TextFaultRows
-mod FactoryRows
-mod SettingRows

@@ -1,4 +1,0 @@
-mod OrderRows
-mod PhaseRows
-mod ObjectionRows
-mod TreeRows

@@ -1,8 +1,0 @@
-use Rattle.world_acts.proofs.Common.{Instance, factory-more}
-use Rattle.world_acts.proofs.tree.overrides.override_within.Goals as goal
-
-pub returns-in-Ok : goal.returns-in-Ok
-returns-in-Ok c = λ types overrides f.
-    let original = rw f.types_are at c.in-Some-Some.ensures in
-    let other = rw f.types_are at c.in-Some-Some.ensures' in
-    rw (← original, ← other) (factory-more (Instance c.in-Some-Some.original c.in-Some-Some.new c.args.scope) c.steps_are_given.ensures c.in-Ok.ensures.types c.in-Ok.ensures.steps f)

@@ -1,4 +1,0 @@
-pub mod TreeKinds
-pub mod PortsKinds
-pub mod DriversMatch
-pub mod SequencersKinds

@@ -1,0 +1,6 @@
+pub mod Begun
+pub mod Common
+pub mod Driven
+pub mod Finished
+pub mod Seated
+pub mod Stepped

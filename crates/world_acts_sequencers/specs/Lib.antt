@@ -1,0 +1,2 @@
+pub mod DriversMatch
+pub mod SequencersKinds

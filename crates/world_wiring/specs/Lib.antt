@@ -1,0 +1,4 @@
+pub mod FifoStates
+pub mod FifosMatch
+pub mod WiringMatch
+pub mod Ports

@@ -10,7 +10,7 @@ use Rattle.rand_core.specs.Stream.{Stream}
 use Rattle.bench_run.specs.Running.{LeavesRun, WroteLog}
 use Rattle.bench_run.specs.declared.faults.RunFault.{RunFault}
 use Rattle.bench_run.specs.declared.faults.RunFault.TheVariants as ran
-use Rattle.bus_command.specs.Commands.{Asked, debug, run}
+use Rattle.bus_jobs.specs.Commands.{Asked, debug, run}
 use Rattle.bus_jobs.specs.Debugging.{BrokeOff, IsDebugRun}
 use Rattle.bus_bench.specs.Program.{IsJobDone, IsJobOn, IsWork}
 use Rattle.bus_jobs.specs.Runs.{IsBenchRun, IsBusRun, script_to_run}

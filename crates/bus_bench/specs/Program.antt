@@ -4,10 +4,10 @@ use Rattle.std.specs.Io.KnownBytes.{Appends, Keeps}
 use Rattle.clap.specs.Words.{IsAmong, Text, fault_of}
 use Rattle.clap.specs.declared.error.kind.ErrorKind.{ErrorKind}
 use Rattle.clap.specs.declared.error.kind.ErrorKind.TheVariants.{DisplayHelp, DisplayVersion}
-use Rattle.bus_command.specs.Commands.{Asked, bus_bench_app, debug, named_job, run}
-use Rattle.bus_command.specs.Faults.{IsJobFaultOf}
-use Rattle.bus_command.specs.declared.jobs.JobFault.{JobFault}
-use Rattle.bus_command.specs.declared.jobs.JobFault.TheVariants.{Help, Version, Refused, BadName, Memory}
+use Rattle.bus_jobs.specs.Commands.{Asked, bus_bench_app, debug, named_job, run}
+use Rattle.bus_jobs.specs.Faults.{IsJobFaultOf}
+use Rattle.bus_jobs.specs.declared.jobs.JobFault.{JobFault}
+use Rattle.bus_jobs.specs.declared.jobs.JobFault.TheVariants.{Help, Version, Refused, BadName, Memory}
 use Rattle.bus_jobs.specs.Debugging.{IsDebugRun}
 use Rattle.bus_jobs.specs.Runs.{IsBenchRun, script_to_run}
 use Rattle.script_input.specs.Scripts.{words_of_seed}

@@ -1,12 +1,11 @@
 //! The commands of the program, on any runtime and with any writers.
 ghost use Rattle.std.specs.Prelude.{◌≡◌, ◌⊎◌, IfErr, IfOk, map, OnErr, OnOk};
-ghost use Rattle.bus_command.specs.Commands.{words_of};
+ghost use Rattle.bus_jobs.specs.Commands.{words_of};
 ghost use Rattle.bus_bench.specs.Program.{CameTo, DidJob, DidNothing, GaveText, IsJobDone, IsJobOn, IsReport, IsServed, IsShown, IsTold, IsWork};
 ghost use Rattle.bus_jobs.specs.Verdicts.{unflushed};
 
 use bench_script::ScriptFault;
-use bus_command::{Job, JobFault, job};
-use bus_jobs::{Verdict, debug_bench, run_bench, tell};
+use bus_jobs::{Job, JobFault, Verdict, debug_bench, job, run_bench, tell};
 use script_input::{Breakage, read_file};
 use std::alloc::Global;
 use std::convert::AsStr;

@@ -1,3 +1,5 @@
+pub mod Commands
+pub mod Faults
 pub mod Verdicts
 pub mod Debugging
 pub mod Runs

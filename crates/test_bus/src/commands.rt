@@ -1,6 +1,6 @@
 //! Tests of command lines: the jobs that they request, and the texts that they result in.
 
-use bus_command::{Job, JobFault, job};
+use bus_jobs::{Job, JobFault, job};
 use std::alloc::{AllocError, Global};
 use std::fmt::Display;
 

@@ -3,11 +3,11 @@
 use crate::files::benches::{answers_of, bytes_of, script_of};
 use crate::files::counted::Counted;
 use crate::files::ends::End;
-use crate::{FaultPlan, Record, RunUnderTest, Ticket, Violation, run_script};
 use bench_script::read_document;
 use script_objects::Answers;
 use std::alloc::{AllocError, Global};
 use std::rt::Files;
+use test_fuzz_runs::{FaultPlan, Record, RunUnderTest, Ticket, Violation, run_script};
 use toml::Table;
 use uvm_glob::Name;
 

@@ -1,9 +1,9 @@
 //! Counted objects of a bench.
 
-use crate::{Behaviour, Ticket};
 use script_jobs::BenchObject;
 use script_objects::Answers;
 use std::alloc::{AllocError, Global};
+use test_fuzz_runs::{Behaviour, Ticket};
 use uvm_glob::Name;
 use uvm_object::{Acts, Call, UvmObject};
 

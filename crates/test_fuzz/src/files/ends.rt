@@ -1,9 +1,9 @@
 //! The ends of runs, and how they are reported.
 
-use crate::Violation;
 use bench_script::ScriptFault;
 use std::alloc::AllocError;
 use std::io::Write;
+use test_fuzz_runs::Violation;
 
 /// The end of a run.
 #[derive(Clone, Copy, PartialEq, Eq)]

@@ -3,7 +3,6 @@
 use crate::files::benches::{answers_of, bytes_of, script_of};
 use crate::files::counted::Counted;
 use crate::files::ends::{End, tell};
-use crate::{Counts, Ticket};
 use bench_run::{CoreFault, Kernel, RunFault, run_kernel};
 use bench_script::{Script, read_document};
 use rand_core::SeedableRng;
@@ -13,6 +12,7 @@ use std::alloc::{AllocError, Global};
 use std::io::Write;
 use std::rc::Rc;
 use std::rt::Files;
+use test_fuzz_runs::{Counts, Ticket};
 use toml::Table;
 use uvm_glob::Name;
 use uvm_object::Object;

@@ -3,10 +3,10 @@
 use crate::random::fault_plan::Moods;
 use crate::random::scripts::random_script;
 use crate::random::wild::Wild;
-use crate::{RunUnderTest, Violation, run_script};
 use bench_script::{ScriptFault, read};
 use std::alloc::{AllocError, Global};
 use std::io::Write;
+use test_fuzz_runs::{RunUnderTest, Violation, run_script};
 
 // The number of answers in a bench that have actions; later answers have none.
 const ANSWERS: u64 = 150;

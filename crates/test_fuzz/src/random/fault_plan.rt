@@ -3,8 +3,8 @@
 use crate::random::dice::Dice;
 use crate::random::habits::Nature;
 use crate::random::wild::Wild;
-use crate::{FaultPlan, Ticket};
 use std::alloc::{AllocError, Global};
+use test_fuzz_runs::{FaultPlan, Ticket};
 use uvm_glob::Name;
 
 /// The fault plan of a seed. Now and then it aborts the run, steps the kernel once more, supplies an object of another type first, or

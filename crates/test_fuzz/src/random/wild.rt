@@ -3,8 +3,8 @@
 use crate::random::acts::{Theme, act_of};
 use crate::random::dice::Dice;
 use crate::random::habits::{Nature, habit};
-use crate::{Behaviour, Ticket};
 use std::alloc::{AllocError, Global};
+use test_fuzz_runs::{Behaviour, Ticket};
 use uvm_object::{Act, Acts, Answers, Call};
 use uvm_phase::Phase;
 

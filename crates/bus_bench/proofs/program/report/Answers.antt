@@ -1,4 +1,4 @@
-use Rattle.bus_command.specs.Commands.{words_of}
+use Rattle.bus_jobs.specs.Commands.{words_of}
 use Rattle.bus_bench.proofs.Reports.{flushed_or_not, work-kept}
 use Rattle.bus_bench.proofs.program.report.Goals as goal
 

@@ -1,9 +1,9 @@
 use Rattle.std.proofs.Common.{◌≡◌, ℕ, List, Option, Some, Result, Ok, Err, IfErr, IfOk, inl, inr, map}
 use Rattle.clap.specs.Words.{Text, fault_of}
-use Rattle.bus_command.specs.Commands.{bus_bench_app, named_job, words_of}
-use Rattle.bus_command.specs.Faults.{IsJobFaultOf}
-use Rattle.bus_command.specs.declared.jobs.Job.{Job}
-use Rattle.bus_command.specs.declared.jobs.JobFault.{JobFault}
+use Rattle.bus_jobs.specs.Commands.{bus_bench_app, named_job, words_of}
+use Rattle.bus_jobs.specs.Faults.{IsJobFaultOf}
+use Rattle.bus_jobs.specs.declared.jobs.Job.{Job}
+use Rattle.bus_jobs.specs.declared.jobs.JobFault.{JobFault}
 use Rattle.bus_bench.specs.Program.{CameTo, IsServed, IsTold}
 use Rattle.bus_bench.proofs.program.serve.Goals as goal
 

@@ -4,10 +4,10 @@ ghost use Rattle.clap.specs.Words.{app_of, fault_of, first_of, found_of, new_app
 ghost use Rattle.clap.specs.Takes.{is_given};
 ghost use Rattle.clap.specs.declared.builder.command.Command.TheViews.{out-Command};
 ghost use Rattle.clap.specs.declared.error.kind.ErrorKind.TheVariants.{DisplayHelp, DisplayVersion};
-ghost use Rattle.bus_command.specs.Commands.{bus_bench_app, debug_app, file_rule, run_app, seed_rule, test_rule, top_app, trace_rule};
-ghost use Rattle.bus_command.specs.Commands.{asked_in, has_bad_name, is_bad_test, job_named, named_job, seed_in, words_of};
-ghost use Rattle.bus_command.specs.Commands.{AsksFor, AsksForHelp, AsksForVersion, HasFile, IsDebugOf, IsRunOf, NamesJob, ReadsSeed, ReadsTrace};
-ghost use Rattle.bus_command.specs.Faults.{IsJobFaultOf, IsHelp, IsVersion};
+ghost use Rattle.bus_jobs.specs.Commands.{bus_bench_app, debug_app, file_rule, run_app, seed_rule, test_rule, top_app, trace_rule};
+ghost use Rattle.bus_jobs.specs.Commands.{asked_in, has_bad_name, is_bad_test, job_named, named_job, seed_in, words_of};
+ghost use Rattle.bus_jobs.specs.Commands.{AsksFor, AsksForHelp, AsksForVersion, HasFile, IsDebugOf, IsRunOf, NamesJob, ReadsSeed, ReadsTrace};
+ghost use Rattle.bus_jobs.specs.Faults.{IsJobFaultOf, IsHelp, IsVersion};
 
 use crate::jobs::{Job, JobFault, fault_by};
 use crate::texts::{

@@ -1,5 +1,5 @@
 -- A level of a parse with no fault: its walk stops at a subcommand of its own, and what is required is there.
-use Rattle.bus_command.proofs.Common.{◌≡◌, ◌⊎◌, ◌&&◌, ℕ, Bool, cond, true, false, not, refl, inl, inr, List, [], ◌∷◌, Option, Some, None, is_some, codes, find, fold, option_map, bytes_eq, Kinds, check_kinds, or_else, long_of, short_of, Shape, Held, Names, Outcome, Rule, Step, Waiting, Walk, after_flag, after_step, answers_to, arg_by_index, done, finished, idle, long_or_other, next, option, plain_word, settled, short_or_plain, subcommand, subcommand_met, subcommand_or_other, to_positional, trailing, value, waits, walk, walk_from, walked, walked_from, word_met, check_fault, defaults_fault, settle_fault, level_fault, other_fault, step_fault, turn_fault, walk_fault, word_fault, OutOfMemory, Text}
+use Rattle.bus_jobs.proofs.CommandNames.{◌≡◌, ◌⊎◌, ◌&&◌, ℕ, Bool, cond, true, false, not, refl, inl, inr, List, [], ◌∷◌, Option, Some, None, is_some, codes, find, fold, option_map, bytes_eq, Kinds, check_kinds, or_else, long_of, short_of, Shape, Held, Names, Outcome, Rule, Step, Waiting, Walk, after_flag, after_step, answers_to, arg_by_index, done, finished, idle, long_or_other, next, option, plain_word, settled, short_or_plain, subcommand, subcommand_met, subcommand_or_other, to_positional, trailing, value, waits, walk, walk_from, walked, walked_from, word_met, check_fault, defaults_fault, settle_fault, level_fault, other_fault, step_fault, turn_fault, walk_fault, word_fault, OutOfMemory, Text}
 use Rattle.clap.specs.declared.error.kind.ErrorKind.TheVariants as kind
 
 -- ---- no fault of the whole is no fault of a part

@@ -1,5 +1,5 @@
 -- Words that ask for help or for the version.
-use Rattle.bus_command.proofs.Common.{◌≡◌, ◌⊎◌, ◌∙◌, ◌++◌, true, refl, ap, subst, sym, inl, inr, List, [], ◌∷◌, Some, append-nil, append_assoc, codes, fold, clap_on_literals, entered_fault, walk_fault, Kinds, or_else, Shape, built, names_of, Names, Rule, Walk, nothing_held, walk_from, walked, HasKind, is_simple_and_free, kind_of, Error, ErrorKind, DisplayHelp, DisplayVersion, OutOfMemory, AsksBy, AsksForHelp, AsksForVersion, bus_bench_app, IsFaultBy, IsHelp, IsVersion, JobFault, Help, Version, Refused, BadName, Memory, App, Text, fault_of}
+use Rattle.bus_jobs.proofs.CommandNames.{◌≡◌, ◌⊎◌, ◌∙◌, ◌++◌, true, refl, ap, subst, sym, inl, inr, List, [], ◌∷◌, Some, append-nil, append_assoc, codes, fold, clap_on_literals, entered_fault, walk_fault, Kinds, or_else, Shape, built, names_of, Names, Rule, Walk, nothing_held, walk_from, walked, HasKind, is_simple_and_free, kind_of, Error, ErrorKind, DisplayHelp, DisplayVersion, OutOfMemory, AsksBy, AsksForHelp, AsksForVersion, bus_bench_app, IsFaultBy, IsHelp, IsVersion, JobFault, Help, Version, Refused, BadName, Memory, App, Text, fault_of}
 
 -- ---- behind a subcommand's name the words are the subcommand's
 

@@ -1,5 +1,5 @@
 -- The words `PROGRAM debug FILE` and `PROGRAM run FILE`.
-use Rattle.bus_command.proofs.Common.{◌≡◌, ◌∙◌, true, false, refl, ap, sym, List, [], ◌∷◌, None, Option, Some, Result, Ok, Err, IfOk, MatchResult, OnErr, codes, clap_on_literals, takes, AsksFor, Asked, bus_bench_app, debug, has_bad_name, is_flag, named_job, run, words_of, JobFault, BadName, Memory, Job, Text}
+use Rattle.bus_jobs.proofs.CommandNames.{◌≡◌, ◌∙◌, true, false, refl, ap, sym, List, [], ◌∷◌, None, Option, Some, Result, Ok, Err, IfOk, MatchResult, OnErr, codes, clap_on_literals, takes, AsksFor, Asked, bus_bench_app, debug, has_bad_name, is_flag, named_job, run, words_of, JobFault, BadName, Memory, Job, Text}
 
 debug_taken : (program file : Text) → is_flag file ≡ false → takes bus_bench_app (program ∷ codes "debug" ∷ file ∷ []) ≡ true
 unfolding clap_on_literals

@@ -1,7 +1,7 @@
 -- Words with no fault name a job.
-use Rattle.bus_command.proofs.Common.{◌≡◌, ◌⊎◌, ◌&&◌, ◌||◌, ◌∙◌, ℕ, Bool, cond, true, false, not, refl, sym, ap, subst, inl, inr, List, [], Option, Some, None, IfSome, Result, Ok, Err, IfErr, OnErr, OnOk, is_some, codes, arith, unwrap_or, option_map, option_map_or, Accepts, ParsesUnsigned, digits_value, without_leading_plus, Bor, HasMatchesOf, Shape, is_simple, argument_words, built, built_leaf, entered, filled, inherited, names_of, subcommand_of, is_given, Row, first_of, nothing_held, rows_after, stop_after, walk_from, entered_fault, ReadsOne, first_value, subcommand_name_of, Kinds, Found, first_value-rows, Job, Asked, has_bad_name, HasFile, NamesJob, bus_bench_app, debug_app, run_app, seed_parser, seed_rule, trace_rule, IsFaultBy, IsJobFaultOf, JobFault, Help, Version, Refused, BadName, Memory, Error, DisplayHelp, DisplayVersion, OutOfMemory, ArgMatches, out-ArgMatches, is_simple_and_free, kind_of, subcommand_rows_of, App, Text, one_of, rows_of, fault_of}
-use Rattle.bus_command.proofs.RowLemmas.{AreRegular, Reads, given_value, rows_read, rows_sound}
-use Rattle.bus_command.proofs.LevelLemmas.{IsCommandName, IsOwnStop, checks_none, level_parts, walk_own}
+use Rattle.bus_jobs.proofs.CommandNames.{◌≡◌, ◌⊎◌, ◌&&◌, ◌||◌, ◌∙◌, ℕ, Bool, cond, true, false, not, refl, sym, ap, subst, inl, inr, List, [], Option, Some, None, IfSome, Result, Ok, Err, IfErr, OnErr, OnOk, is_some, codes, arith, unwrap_or, option_map, option_map_or, Accepts, ParsesUnsigned, digits_value, without_leading_plus, Bor, HasMatchesOf, Shape, is_simple, argument_words, built, built_leaf, entered, filled, inherited, names_of, subcommand_of, is_given, Row, first_of, nothing_held, rows_after, stop_after, walk_from, entered_fault, ReadsOne, first_value, subcommand_name_of, Kinds, Found, first_value-rows, Job, Asked, has_bad_name, HasFile, NamesJob, bus_bench_app, debug_app, run_app, seed_parser, seed_rule, trace_rule, IsFaultBy, IsJobFaultOf, JobFault, Help, Version, Refused, BadName, Memory, Error, DisplayHelp, DisplayVersion, OutOfMemory, ArgMatches, out-ArgMatches, is_simple_and_free, kind_of, subcommand_rows_of, App, Text, one_of, rows_of, fault_of}
+use Rattle.bus_jobs.proofs.RowLemmas.{AreRegular, Reads, given_value, rows_read, rows_sound}
+use Rattle.bus_jobs.proofs.LevelLemmas.{IsCommandName, IsOwnStop, checks_none, level_parts, walk_own}
 
 -- an argument that is required was given
 given_of : (g other : Bool) → (not g || other) ≡ false → g ≡ true

@@ -1,9 +1,9 @@
 -- The names of other crates and of this crate's specs that its proofs cite, passed on from one place. Declares nothing.
-pub use Rattle.bus_command.specs.Commands.{Asked, AsksBy, AsksFor, AsksForHelp, AsksForVersion, HasFile, NamesJob, bus_bench_app, debug, debug_app, has_bad_name, is_bad_test, is_flag, job_named, named_job, run, run_app, run_in, seed_parser, seed_rule, trace_rule, words_of}
-pub use Rattle.bus_command.specs.Faults.{IsFaultBy, IsHelp, IsJobFaultOf, IsVersion}
-pub use Rattle.bus_command.specs.declared.jobs.Job.{Job}
-pub use Rattle.bus_command.specs.declared.jobs.JobFault.TheVariants.{BadName, Help, Memory, Refused, Version}
-pub use Rattle.bus_command.specs.declared.jobs.JobFault.{JobFault}
+pub use Rattle.bus_jobs.specs.Commands.{Asked, AsksBy, AsksFor, AsksForHelp, AsksForVersion, HasFile, NamesJob, bus_bench_app, debug, debug_app, has_bad_name, is_bad_test, is_flag, job_named, named_job, run, run_app, run_in, seed_parser, seed_rule, trace_rule, words_of}
+pub use Rattle.bus_jobs.specs.Faults.{IsFaultBy, IsHelp, IsJobFaultOf, IsVersion}
+pub use Rattle.bus_jobs.specs.declared.jobs.Job.{Job}
+pub use Rattle.bus_jobs.specs.declared.jobs.JobFault.TheVariants.{BadName, Help, Memory, Refused, Version}
+pub use Rattle.bus_jobs.specs.declared.jobs.JobFault.{JobFault}
 unfoldable pub use Rattle.clap.proofs.OnLiterals.{clap_on_literals}
 pub use Rattle.clap.proofs.ValueTestLemmas.{accepts-Accepts}
 pub use Rattle.clap.proofs.WalkLemmas.{both, first_value-rows, one_text-rows}

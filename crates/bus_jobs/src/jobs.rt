@@ -1,7 +1,7 @@
 //! The jobs that the arguments of the command line can ask for.
 ghost use Rattle.std.specs.Prelude.{◌≡◌, IfOk};
-ghost use Rattle.bus_command.specs.Faults.{IsFaultBy};
-ghost use Rattle.bus_command.specs.declared.jobs.JobFault.TheVariants.{Memory};
+ghost use Rattle.bus_jobs.specs.Faults.{IsFaultBy};
+ghost use Rattle.bus_jobs.specs.declared.jobs.JobFault.TheVariants.{Memory};
 
 use clap::error::ErrorKind;
 use std::alloc::{AllocError, Global};

@@ -1,6 +1,6 @@
-use Rattle.bus_command.proofs.Common.{◌∙◌, Option, Some, ap, codes, sym, rules, option_map, found_of, has_bad_name, is_bad_test, run, run_in, Text, rows_of}
-use Rattle.bus_command.proofs.CommandLemmas.{first_read}
-use Rattle.bus_command.proofs.commands.run_job.Goals as goal
+use Rattle.bus_jobs.proofs.CommandNames.{◌∙◌, Option, Some, ap, codes, sym, rules, option_map, found_of, has_bad_name, is_bad_test, run, run_in, Text, rows_of}
+use Rattle.bus_jobs.proofs.CommandLemmas.{first_read}
+use Rattle.bus_jobs.proofs.commands.run_job.Goals as goal
 
 pub returns-clause-named : goal.returns-clause-named
 returns-clause-named c =

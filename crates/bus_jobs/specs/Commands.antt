@@ -11,8 +11,8 @@ use Rattle.clap.specs.declared.builder.action.ArgAction.TheVariants.{SetTrue}
 use Rattle.clap.specs.declared.builder.value_parser.ValueParser.{ValueParser}
 use Rattle.clap.specs.declared.builder.value_parser.ValueParser.TheVariants as parser
 use Rattle.uvm_glob.specs.Names.{name_fault}
-use Rattle.bus_command.specs.declared.jobs.Job.{Job}
-use Rattle.bus_command.specs.declared.jobs.Job.TheVariants.{Debug, Run}
+use Rattle.bus_jobs.specs.declared.jobs.Job.{Job}
+use Rattle.bus_jobs.specs.declared.jobs.Job.TheVariants.{Debug, Run}
 
 -- ---- the command line, as clap reads it
 

@@ -1,8 +1,8 @@
-use Rattle.bus_command.proofs.Common.{◌∙◌, Err, ap, inr, map, refl, takes, DisplayHelp, DisplayVersion, bus_bench_app, job_named, App, fault_of}
-use Rattle.bus_command.proofs.CommandLemmas.{bad_name_alone, faultless_job, found_rows, no_fault, on_ok, only_memory}
-use Rattle.bus_command.proofs.HelpLemmas.{asks_help, asks_version, has_kind, helped, none_asked, versioned}
-use Rattle.bus_command.proofs.PlainLemmas.{asks_debug, asks_run, gives_job}
-use Rattle.bus_command.proofs.commands.job.Goals as goal
+use Rattle.bus_jobs.proofs.CommandNames.{◌∙◌, Err, ap, inr, map, refl, takes, DisplayHelp, DisplayVersion, bus_bench_app, job_named, App, fault_of}
+use Rattle.bus_jobs.proofs.CommandLemmas.{bad_name_alone, faultless_job, found_rows, no_fault, on_ok, only_memory}
+use Rattle.bus_jobs.proofs.HelpLemmas.{asks_help, asks_version, has_kind, helped, none_asked, versioned}
+use Rattle.bus_jobs.proofs.PlainLemmas.{asks_debug, asks_run, gives_job}
+use Rattle.bus_jobs.proofs.commands.job.Goals as goal
 
 pub returns-in_ok-fault_by-in-Err-clause-taken : goal.returns-in_ok-fault_by-in-Err-clause-taken
 returns-in_ok-fault_by-in-Err-clause-taken g c =

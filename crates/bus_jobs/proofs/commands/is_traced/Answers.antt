@@ -1,6 +1,6 @@
-use Rattle.bus_command.proofs.Common.{◌∙◌, codes, is_given, found_of, one_text-rows, one_of, rows_of}
-use Rattle.bus_command.proofs.CommandLemmas.{flag_read}
-use Rattle.bus_command.proofs.commands.is_traced.Goals as goal
+use Rattle.bus_jobs.proofs.CommandNames.{◌∙◌, codes, is_given, found_of, one_text-rows, one_of, rows_of}
+use Rattle.bus_jobs.proofs.CommandLemmas.{flag_read}
+use Rattle.bus_jobs.proofs.commands.is_traced.Goals as goal
 
 pub returns : goal.returns
 returns c =

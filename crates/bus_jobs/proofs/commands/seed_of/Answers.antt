@@ -1,6 +1,6 @@
-use Rattle.bus_command.proofs.Common.{◌∙◌, codes, ExplainsUnsignedError, HasUnsignedDigitsIfOk, ParsesUnsigned, found_of, one_text-rows, one_of, rows_of}
-use Rattle.bus_command.proofs.CommandLemmas.{seed_read}
-use Rattle.bus_command.proofs.commands.seed_of.Goals as goal
+use Rattle.bus_jobs.proofs.CommandNames.{◌∙◌, codes, ExplainsUnsignedError, HasUnsignedDigitsIfOk, ParsesUnsigned, found_of, one_text-rows, one_of, rows_of}
+use Rattle.bus_jobs.proofs.CommandLemmas.{seed_read}
+use Rattle.bus_jobs.proofs.commands.seed_of.Goals as goal
 
 pub returns : goal.returns
 returns c =

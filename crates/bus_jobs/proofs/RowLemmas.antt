@@ -1,7 +1,7 @@
 -- What a walk with no fault holds: each row is an argument's, and has a value that the argument's parser takes.
-use Rattle.bus_command.proofs.Common.{◌≡◌, ◌==◌, ◌&&◌, ◌∙◌, ◌<◌, ℕ, Bool, cond, true, false, zero, suc, refl, sym, ap, subst, arith, List, [], ◌∷◌, ◌++◌, length, drop, Option, Some, None, is_some, nat_lt, not, find, fold, option_map, option_map_or, encode_utf8, option_and_then, slice_get, bytes_eq, chars, eqb-true, lt-ltb, ne_eqb, bytes_eq-Decides, explicit_source, parser_of_value, action_fault, bundle_fault, bundle_step_fault, flag_word_fault, flags_fault, level_fault, long_fault, option_fault, other_fault, positional_fault, react_fault, settle_fault, short_fault, step_fault, stray_fault, turn_fault, use_fault, values_fault, walk_fault, word_fault, Kinds, or_else, range_kinds, long_of, short_of, Shape, is_given, value_passes, values_pass, Accepts, read_as, Held, Names, Outcome, Row, Rule, Step, Waiting, Walk, action_of, after_flag, after_step, arg_by_id, arg_by_index, arg_by_long, arg_by_short, at_row, attached_value, bundle_met, bundle_step, done, first_of, flag_met, has_row, is_pending, long_met, long_or_other, more_values, most_values, next, nothing_held, option, option_met, option_word, plain_word, positional_held, pushed, reacted, reading_by, row_text, rows_after, settled, settled_rows, short_met, short_or_plain, stronger, subcommand, subcommand_met, subcommand_or_other, takes_several, takes_values, to_positional, trailing, used, used_as, used_by_id, value, waits, walk, walk_from, walked, walked_from, with_default, with_values, without, word_met, default_rows, ArgAction, Set, Append, SetTrue, SetFalse, Count, Reading, AsWritten, ErrorKind, ValueSource, CommandLine, DefaultValue, accepts-Accepts, both, Text, one_of}
+use Rattle.bus_jobs.proofs.CommandNames.{◌≡◌, ◌==◌, ◌&&◌, ◌∙◌, ◌<◌, ℕ, Bool, cond, true, false, zero, suc, refl, sym, ap, subst, arith, List, [], ◌∷◌, ◌++◌, length, drop, Option, Some, None, is_some, nat_lt, not, find, fold, option_map, option_map_or, encode_utf8, option_and_then, slice_get, bytes_eq, chars, eqb-true, lt-ltb, ne_eqb, bytes_eq-Decides, explicit_source, parser_of_value, action_fault, bundle_fault, bundle_step_fault, flag_word_fault, flags_fault, level_fault, long_fault, option_fault, other_fault, positional_fault, react_fault, settle_fault, short_fault, step_fault, stray_fault, turn_fault, use_fault, values_fault, walk_fault, word_fault, Kinds, or_else, range_kinds, long_of, short_of, Shape, is_given, value_passes, values_pass, Accepts, read_as, Held, Names, Outcome, Row, Rule, Step, Waiting, Walk, action_of, after_flag, after_step, arg_by_id, arg_by_index, arg_by_long, arg_by_short, at_row, attached_value, bundle_met, bundle_step, done, first_of, flag_met, has_row, is_pending, long_met, long_or_other, more_values, most_values, next, nothing_held, option, option_met, option_word, plain_word, positional_held, pushed, reacted, reading_by, row_text, rows_after, settled, settled_rows, short_met, short_or_plain, stronger, subcommand, subcommand_met, subcommand_or_other, takes_several, takes_values, to_positional, trailing, used, used_as, used_by_id, value, waits, walk, walk_from, walked, walked_from, with_default, with_values, without, word_met, default_rows, ArgAction, Set, Append, SetTrue, SetFalse, Count, Reading, AsWritten, ErrorKind, ValueSource, CommandLine, DefaultValue, accepts-Accepts, both, Text, one_of}
 use Rattle.clap.specs.declared.error.kind.ErrorKind.TheVariants as kind
-use Rattle.bus_command.proofs.LevelLemmas.{level_parts, no_first, no_next}
+use Rattle.bus_jobs.proofs.LevelLemmas.{level_parts, no_first, no_next}
 
 -- ---- arguments
 

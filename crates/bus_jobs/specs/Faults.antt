@@ -4,8 +4,8 @@ use Rattle.clap.specs.Words.{IsAmong, Kinds, kind_of}
 use Rattle.clap.specs.declared.error.Error.{Error}
 use Rattle.clap.specs.declared.error.kind.ErrorKind.{ErrorKind}
 use Rattle.clap.specs.declared.error.kind.ErrorKind.TheVariants.{DisplayHelp, DisplayVersion, OutOfMemory}
-use Rattle.bus_command.specs.declared.jobs.JobFault.{JobFault}
-use Rattle.bus_command.specs.declared.jobs.JobFault.TheVariants.{Help, Version, Refused, BadName, Memory}
+use Rattle.bus_jobs.specs.declared.jobs.JobFault.{JobFault}
+use Rattle.bus_jobs.specs.declared.jobs.JobFault.TheVariants.{Help, Version, Refused, BadName, Memory}
 
 -- an error of this kind asks for neither help nor the version
 abbrev pub IsRefusal : ErrorKind → Type 0

@@ -98,7 +98,7 @@ def note(comment):
 
 
 def of_script_faults():
-    path = "script_tables/src/faults.rt"
+    path = "script_values/src/faults.rt"
     labels = sources.arms(path, "label")
     rows = [(labels[name].removeprefix("script fault "), comment) for name, comment in sources.variants(path, "ScriptFault") if name != "Memory"]
     return table(["script fault", "when"], rows)

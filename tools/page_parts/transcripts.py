@@ -75,8 +75,23 @@ def of_mistakes():
         told = err.strip().replace(f"mistakes/{file.name}", "FILE")
         reports = [line for line in out.splitlines() if " @ " in line]
         wrong = [line for line in reports if not line.startswith("UVM_INFO")] or reports[:1]
-        rows.append((mistake, f"`{told or wrong[-1]}`", str(status), remedy))
-    return table(["mistake", "what is printed", "status", "what to do"], rows)
+        rows.append((mistake, f"`{told or wrong[-1]}`", str(status), explained(file, status), remedy))
+    return table(["mistake", "what `run` prints", "status", "what `check` or `run --explain` says", "what to do"], rows)
+
+
+def explained(file, status):
+    """Returns what `check` says of a rejected file, without the marked line, and what `run --explain` says of another, line by line."""
+    name = f"mistakes/{file.name}"
+    if status == 2:
+        out, _, _ = ran(["script_bench", "check", name])
+        lines = [line.strip() for line in out.replace(name, "FILE").splitlines()]
+        is_marked = len(lines) > 2 and set(lines[2]) == {"^"}
+        told = [lines[0], *lines[3 if is_marked else 1:]]
+    else:
+        _, err, _ = ran(["script_bench", "run", "--explain", name])
+        lines = [line.strip() for line in err.splitlines()[1:]]
+        told = [line for line in lines if not line.endswith(":")]
+    return "<br>".join(line.replace("|", "\\|") for line in told)
 
 
 def order(file):

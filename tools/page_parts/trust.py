@@ -19,7 +19,7 @@ ROOTS = [
         "Rattle.uvm_object.specs.declared.objects.UvmObject.{UvmObject}"])]
 # The definitions of reading a script: no root may reach them.
 READING = {"bench_script/specs/Documents.antt", "script_tables/specs/Tables.antt", "script_tables/specs/ReportTables.antt"} | {
-    "script_tables/specs/" + name for name in ("Elements.antt", "Keys.antt", "Reading.antt", "Values.antt")}
+    "script_values/specs/" + name for name in ("Elements.antt", "Keys.antt", "Places.antt", "Reading.antt", "Values.antt")}
 
 CRATES = Path(__file__).resolve().parents[2] / "crates"
 USE = re.compile(r"^\s*(?:pub |ghost )*use (\w[\w.:]*\w)(?:(?:\.|::)\{([^}]*)\})?(?: as (\w+))?;?$", re.M)

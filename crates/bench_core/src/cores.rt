@@ -299,6 +299,17 @@ impl Core {
         status::waiting(&self.world, node)
     }
 
+    /// Returns the state of the run, which the queries of `services` and `status` read; `None` after an out-of-memory error.
+    pub fn world(&self) -> Option<&World>
+        ensures given { IfSome result (λ world. (world.now.sound ≡ true) × (world.now.script ≡ self.now.script) × (world.now.history ≡ self.now.history)) }
+        ensures variant { is_some result ≡ is_sound self.now.health }
+    {
+        if !self.is_sound() {
+            return None;
+        }
+        Some(&self.world)
+    }
+
     /// Returns the report server (Clause 6), or `None` after an out-of-memory error.
     pub fn reports(&self) -> Option<&Reports>
         ensures given { IfSome result (λ reports. ReportsAgree reports.now (report_commands self.now.script self.now.history)) }

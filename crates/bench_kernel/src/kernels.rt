@@ -223,14 +223,23 @@ impl<O: UvmObject> Kernel<O> {
     pub fn finish(self)
         requires { self.held ≡ [] }
     {
+        let _core = self.into_core();
+    }
+
+    /// Ends a kernel that holds no object, and returns its core, with the log. Allocates no memory.
+    pub fn into_core(self) -> Core
+        requires { self.held ≡ [] }
+        ensures { result ≡ self.core }
+    {
         let Kernel {
             alloc: _,
-            core: _,
+            core,
             seats: _,
             sequences: _,
             abandoned: _,
             unknown: _,
         } = self;
+        core
     }
 
     /// Aborts the run: the kernel has failed from now on, and only returns its objects. Changes nothing if the run has ended, or the kernel

@@ -1,5 +1,5 @@
 -- What a run of a script does.
-use Rattle.std.specs.Prelude.{◌≡◌, ◌≢◌, ◌<◌, ◌≤◌, ℕ, Bool, false, List, [], ◌∷◌, ◌++◌, length, IfSome, IsSome, Option, Some, None, Result, Ok, Err}
+use Rattle.std.specs.Prelude.{◌≡◌, ◌≢◌, ◌<◌, ◌≤◌, ℕ, Bool, false, List, [], ◌∷◌, ◌++◌, length, IfSome, IsSome, OnOk, Option, Some, None, Result, Ok, Err}
 use Rattle.std.specs.Io.KnownBytes.{Appends, Keeps}
 use Rattle.rand_core.specs.Stream.{Stream}
 use Rattle.uvm_glob.specs.Lists.{newest}
@@ -15,6 +15,7 @@ use Rattle.bench_history.specs.Limits.{log_limit}
 use Rattle.bench_history.specs.History.{is_over}
 use Rattle.bench_history.specs.Reports.{report_commands}
 use Rattle.bench_kernel.specs.Cores.{CoreValue, core_after, last_text}
+use Rattle.bench_kernel.specs.Health.TheVariants.{Good}
 use Rattle.bench_kernel.specs.Kernels.{KernelValue}
 use Rattle.bench_run.specs.Words.{HasGiven, HasWordsOf, may_lose}
 use Rattle.bench_run.specs.Lives.{HaveLived}
@@ -84,6 +85,21 @@ module _ {O : Type 0} (view : O → View) (name : O → List ℕ) (says : O → 
     pub words : HasWordsOf stream history
     pub given : HasGiven (may_lose result) history stream left
     pub objects : HaveLived view name says Makes script history
+
+-- a core has the log of a run of this script, whose text was written; if the run ended, the core answers all queries
+pub record HasRun (core : CoreValue) (script : ScriptValue) (trace : Bool) (old new : Option (List ℕ)) (result : Result RunResult RunFault) : Type 0 where
+  pub same : core.script ≡ script
+  pub legal : IsLegal script core.history
+  pub leaves : LeavesRun script trace core.history old new result
+  pub sound : OnOk result (core.health ≡ Good)
+
+-- a run that leaves no core: it has no test, or memory ran out
+abbrev pub HasNoCore : Result RunResult RunFault → Type 0
+HasNoCore (Ok run_result) = ⊥
+HasNoCore (Err Memory) = Unit {0}
+HasNoCore (Err LogFull) = ⊥
+HasNoCore (Err Output) = ⊥
+HasNoCore (Err NoTest) = Unit {0}
 
 -- only ended sequences were reported and their objects returned; the log is unchanged, and the kernel has failed exactly if it had before
 pub record HasTold {O : Type 0} (old new : KernelValue O) : Type 0 where

@@ -21,5 +21,5 @@ mod sinks;
 pub use bench_kernel::{Core, CoreFault, Kernel, Misfit, Step, Unfit};
 pub use faults::RunFault;
 pub use run_results::{RunResult, empty_kernel, exit_status, reports_of, run_result_of};
-pub use running::{run_kernel, run_script};
+pub use running::{run_kernel, run_script, run_to_core};
 pub use sinks::Sink;

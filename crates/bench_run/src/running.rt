@@ -1,6 +1,6 @@
 //! Runs a script: performs the steps of a kernel, and makes the objects that it needs.
 
-ghost use Rattle.std.specs.Prelude.{◌≡◌, ◌≢◌, ◌⊎◌, [], None, Err, OnErr, OnOk, IfOk, IfErr, IsSome, Some, true, false, if◌then◌else◌, MatchBool};
+ghost use Rattle.std.specs.Prelude.{◌≡◌, ◌≢◌, ◌⊎◌, [], None, Err, OnErr, OnOk, IfOk, IfErr, IfNone, IfSome, IsSome, Some, true, false, if◌then◌else◌, MatchBool};
 ghost use Rattle.std.specs.Io.KnownBytes.{Appends};
 ghost use Rattle.bench_history.specs.Next.{IsLegal, need_in, next_of};
 ghost use Rattle.bench_kernel.specs.Health.TheVariants.{Good};
@@ -12,13 +12,13 @@ ghost use Rattle.bench_run.specs.Words.{HasGiven, HasLost, HasWordsOf, may_lose,
 ghost use Rattle.bench_run.specs.Lives.{AreKept, HaveLived, MayGive};
 ghost use Rattle.bench_run.specs.Sinks.{TookMore};
 ghost use Rattle.bench_run.specs.Texts.{TookTexts};
-ghost use Rattle.bench_run.specs.Running.{Grows, HasTold, IsDeclined, IsHalted, IsRun, IsUnwritten, LeavesRun, summary_of};
+ghost use Rattle.bench_run.specs.Running.{Grows, HasNoCore, HasRun, HasTold, IsDeclined, IsHalted, IsRun, IsUnwritten, LeavesRun, summary_of};
 
 use crate::faults::RunFault;
 use crate::run_results::{RunResult, empty_kernel, reports_of, run_result_of};
 use crate::sinks::Sink;
 use bench_history::laws;
-use bench_kernel::{CoreFault, Kernel, Misfit, Step, Unfit, laws as custody};
+use bench_kernel::{Core, CoreFault, Kernel, Misfit, Step, Unfit, laws as custody};
 use bench_script::Script;
 use rand_core::Rng;
 use std::alloc::{AllocError, Global};
@@ -59,18 +59,45 @@ pub fn run_script<
     ensures untested { script.test ≡ None → result ≡ Err RunFault.NoTest }
     ensures tested { IsSome script.test → IfErr result (λ fault. fault ≢ RunFault.NoTest) }
 {
+    let (ended, _core) = run_to_core(alloc, script, words, trace, make, out);
+    ended
+}
+
+/// Runs a script as `run_script` does, and returns the core too. It has the log of the run, and its state at the end. There is no core after
+/// `NoTest`, and there may be none after `Memory`.
+pub fn run_to_core<
+    O: UvmObject,
+    R: Rng,
+    F: Fn(&Name) -> Result<Option<O>, AllocError> + Drop,
+    S: Sink,
+>(
+    alloc: Global,
+    script: Script,
+    words: &mut R,
+    trace: bool,
+    make: F,
+    out: &mut S,
+) -> (Result<RunResult, RunFault>, Option<Core>)
+    requires { F.IsAlwaysCallable make }
+    ensures run { IsRun O.view O.name O.says (MayGive F.Fn make) (R.stream words.old) (R.stream words.new) script trace (S.contents out.old) (S.contents out.new) result.0 }
+    ensures texts { TookTexts script (S.taken out.old) (S.taken out.new) result.0 }
+    ensures output { result.0 ≡ Err RunFault.Output → S.refuses out.old }
+    ensures untested { script.test ≡ None → result.0 ≡ Err RunFault.NoTest }
+    ensures tested { IsSome script.test → IfErr result.0 (λ fault. fault ≢ RunFault.NoTest) }
+    ensures core { IfSome result.1 (λ core. HasRun core script trace (S.contents out.old) (S.contents out.new) result.0) }
+    ensures kept { IfNone result.1 (HasNoCore result.0) }
+{
     let Some(_) = script.test() else {
-        return Err(RunFault::NoTest);
+        return (Err(RunFault::NoTest), None);
     };
     let mut kernel: Kernel<O> = match Kernel::new(alloc, script) {
         Ok(kernel) => kernel,
-        Err(_) => return Err(RunFault::Memory),
+        Err(_) => return (Err(RunFault::Memory), None),
     };
     let ended = run_kernel(alloc, &mut kernel, words, trace, &make, out);
     // For the proof: the text that was written is that of this log, which is legal.
     let _log = kernel.log();
-    kernel.finish();
-    ended
+    (ended, Some(kernel.into_core()))
 }
 
 /// Runs a kernel as `run_script` runs a script, and gives each object back. Requires that the log of the kernel is empty, and that it has

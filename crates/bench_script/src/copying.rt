@@ -1,14 +1,16 @@
 //! Copies of a script, and a script with another test.
 
 ghost use Rattle.std.specs.Prelude.{◌≡◌, IfOk, IfErr};
-ghost use Rattle.script_tables.specs.Reading.{IsFaultOf};
+ghost use Rattle.script_values.specs.Places.{with_fault};
+ghost use Rattle.script_values.specs.Reading.{IsFaultOf};
 ghost use Rattle.bench_script.specs.Documents.{test_among};
 ghost use Rattle.bench_script.specs.Sound.{IsComponentAt};
 
 use crate::scripts::Script;
 use script_tables::{
-    ActionSetting, Drain, Probe, ScriptFault, Setting, SeverityChange, VerbositySetting, type_among,
+    ActionSetting, Drain, Probe, Setting, SeverityChange, VerbositySetting, type_among,
 };
+use script_values::ScriptFault;
 use std::alloc::{AllocError, Global};
 use uvm_factory::{Kind, Override, TypeId};
 use uvm_glob::Name;
@@ -42,7 +44,7 @@ impl Script {
         ensures ok { IfOk result (λ script.
             (test_among self.now.types (Some name.now) ≡ Ok script.test)
             × (script ≡ record self.now { test = script.test })) }
-        ensures err { IfErr result (IsFaultOf (test_among self.now.types (Some name.now))) }
+        ensures err { IfErr result (IsFaultOf (with_fault (test_among self.now.types (Some name.now)))) }
     {
         let Some(test) = type_among(self.types(), name) else {
             return Err(ScriptFault::UnknownType);

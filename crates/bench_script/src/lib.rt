@@ -8,8 +8,8 @@ mod reading;
 mod scripts;
 
 pub use factories::factory_of;
-pub use reading::{read, read_document, read_table};
-pub use script_tables::{
-    ActionSetting, Probe, ScriptFault, Setting, SeverityChange, VerbositySetting,
-};
+pub use heads::root_keys;
+pub use reading::{read, read_document, read_placed, read_table};
+pub use script_tables::{ActionSetting, Probe, Setting, SeverityChange, VerbositySetting};
+pub use script_values::{Column, FaultyScript, Place, Reason, RootKey, ScriptFault, TableArray};
 pub use scripts::Script;

@@ -4,16 +4,17 @@ ghost use Rattle.std.specs.Prelude.{◌≡◌, ◌≢◌, Ok, Err, IfOk, MatchRe
 ghost use Rattle.script_tables.specs.Drains.{CanDrain};
 ghost use Rattle.toml.specs.View.{table_view};
 ghost use Rattle.toml.specs.Parse.{parse_document};
-ghost use Rattle.script_tables.specs.Reading.{IsReading};
+ghost use Rattle.script_values.specs.Reading.{IsPlaced, IsReading};
 ghost use Rattle.bench_script.specs.Sound.{IsComponentAt};
-ghost use Rattle.bench_script.specs.Documents.{IsReadable, drains_given, script_beside, script_of_bytes, test_among, tree_in, tree_of_bytes};
+ghost use Rattle.bench_script.specs.Documents.{IsReadable, drains_given, placed_beside, script_beside, script_of_bytes, test_among, tree_in, tree_of_bytes};
 
 use crate::heads::read_head;
 use crate::scripts::Script;
 use script_tables::{
-    Drain, ScriptFault, TypeTable, read_actions, read_drains, read_overrides, read_probes,
-    read_settings, read_severities, read_types, read_verbosities,
+    Drain, TypeTable, read_actions, read_drains, read_overrides, read_probes, read_settings,
+    read_severities, read_types, read_verbosities,
 };
+use script_values::{FaultyScript, Place, Reason, RootKey, ScriptFault, at_place};
 use std::alloc::Global;
 use std::str;
 use toml::Table;
@@ -65,13 +66,22 @@ fn parse(alloc: Global, text: &str) -> Result<Table, ScriptFault>
 }
 
 /// Reads a script from the tree of a document. The document can have the keys in `others` in addition to those of a script.
-/// Errors, in this order: those of `version`; `UnknownKey` for a key that is neither one of a script of this version nor in
-/// `others`; those of `test` as a name, `time_limit`, `quit_limit` and `runtime`; those of `type`, `override`, `set`,
-/// `verbosity`, `action`, `severity`, `probe` and `drain`; `UnknownType` or `WrongKind` if `test` does not name a component type;
-/// out of memory (`Memory`).
+/// Errors: the fault of the error of `read_placed`.
 #[tactic(auto, unfolding(crate::specs::Documents::script_beside))]
 pub fn read_table(alloc: Global, root: &Table, others: &[&str]) -> Result<Script, ScriptFault>
     ensures { IsReading (script_beside (map (λ key. key.now) others.now) (table_view root.now)) result }
+{
+    Ok(read_placed(alloc, root, others)?)
+}
+
+/// Reads a script from the tree of a document. The document can have the keys in `others` in addition to those of a script.
+/// Errors, in this order: those of `version`; `UnknownKey` for a key that is neither one of a script of this version nor in
+/// `others`; those of `test` as a name, `time_limit`, `quit_limit` and `runtime`; those of `type`, `override`, `set`,
+/// `verbosity`, `action`, `severity`, `probe` and `drain`; `UnknownType` or `SequenceTest` if `test` does not name a component
+/// type; out of memory (`Memory`). Each has its place.
+#[tactic(auto, unfolding(crate::specs::Documents::placed_beside))]
+pub fn read_placed(alloc: Global, root: &Table, others: &[&str]) -> Result<Script, FaultyScript>
+    ensures { IsPlaced (placed_beside (map (λ key. key.now) others.now) (table_view root.now)) result }
 {
     let head = read_head(root, others)?;
     let types = read_types(alloc, root)?;
@@ -82,7 +92,7 @@ pub fn read_table(alloc: Global, root: &Table, others: &[&str]) -> Result<Script
     let severities = read_severities(alloc, root)?;
     let probes = read_probes(alloc, &types, root)?;
     let drains = drains_given(alloc, head.version, root)?;
-    let test = test_among(&types, head.test)?;
+    let test = at_place(test_among(&types, head.test), Place::Key(RootKey::Test))?;
     Ok(Script {
         version: head.version,
         test,
@@ -101,11 +111,11 @@ pub fn read_table(alloc: Global, root: &Table, others: &[&str]) -> Result<Script
 }
 
 // Returns the drain times of a script of version 2, and none for version 1. Errors: as for `read_drains`.
-fn drains_given(alloc: Global, version: u64, root: &Table) -> Result<Vec<Drain>, ScriptFault>
+fn drains_given(alloc: Global, version: u64, root: &Table) -> Result<Vec<Drain>, FaultyScript>
     ensures sound { IfOk result (λ rows. All CanDrain rows.items) }
     ensures rows { MatchResult result
         (λ rows. drains_given version (table_view root.now) ≡ Ok rows.items)
-        (λ fault. fault ≢ ScriptFault.Memory → drains_given version (table_view root.now) ≡ Err fault) }
+        (λ faulty. faulty.reason ≢ Reason.Memory → drains_given version (table_view root.now) ≡ Err faulty) }
 {
     if version == 2 {
         read_drains(alloc, root)
@@ -115,18 +125,18 @@ fn drains_given(alloc: Global, version: u64, root: &Table) -> Result<Vec<Drain>,
 }
 
 // Returns the type that the test names, which must be a component type, or `None` if there is no test. Errors: `UnknownType` if
-// no type has the name; `WrongKind` if the type is a sequence type.
-fn test_among(types: &TypeTable, test: Option<Name>) -> Result<Option<TypeId>, ScriptFault>
+// no type has the name; `SequenceTest` if the type is a sequence type.
+fn test_among(types: &TypeTable, test: Option<Name>) -> Result<Option<TypeId>, Reason>
     ensures test { result ≡ test_among types.now test }
     ensures sound { IfOk result (IsComponentAt types.now) }
 {
     let Some(name) = test else {
         return Ok(None);
     };
-    let place = types.find(&name).ok_or(ScriptFault::UnknownType)?;
+    let place = types.find(&name).ok_or(Reason::UnknownType)?;
     match types.kind_of(place) {
         Some(Kind::Component) => Ok(Some(place)),
-        Some(Kind::Sequence) => Err(ScriptFault::WrongKind),
-        None => Err(ScriptFault::UnknownType),
+        Some(Kind::Sequence) => Err(Reason::SequenceTest),
+        None => Err(Reason::UnknownType),
     }
 }

@@ -4,7 +4,7 @@ use Rattle.std.specs.Io.KnownBytes.{Keeps}
 use Rattle.std.proofs.KnownBytes.{Appends-kept, Keeps-trans}
 use Rattle.uvm_object.specs.declared.entries.Entry.{Entry}
 use Rattle.bench_run.specs.declared.run_results.RunResult.{RunResult}
-use Rattle.script_tables.specs.declared.faults.ScriptFault.{ScriptFault}
+use Rattle.script_values.specs.declared.faults.ScriptFault.{ScriptFault}
 use Rattle.bench_script.specs.Scripts.{ScriptValue}
 use Rattle.rand_core.specs.Stream.{Stream}
 use Rattle.bench_run.specs.Running.{LeavesRun, WroteLog}

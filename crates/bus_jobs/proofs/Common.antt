@@ -19,7 +19,7 @@ pub use Rattle.bus_objects.specs.Laws.{ObjectsAreFunctions}
 pub use Rattle.bus_objects.specs.Objects.{name_of, object_named, says_of, view_of}
 pub use Rattle.bus_objects.specs.declared.objects.BusObject.{BusObject}
 pub use Rattle.rand_core.specs.Stream.{Stream}
-pub use Rattle.script_tables.specs.declared.faults.ScriptFault.{ScriptFault}
+pub use Rattle.script_values.specs.declared.faults.ScriptFault.{ScriptFault}
 pub use Rattle.script_tables.specs.declared.rows.Probe.{Probe}
 pub use Rattle.std.proofs.Common.{Bool, Err, List, None, Ok, Option, Result, Some, [], ap, arith, get_or, if◌then◌else◌, inl, inr, length, map, option_copied, refl, reverse, subst, sym, take, ℕ, ◌++◌, ◌+◌, ◌<◌, ◌∙◌, ◌∷◌, ◌≡◌, ◌≢◌, ◌≤◌}
 pub use Rattle.std.proofs.KnownBytes.{Appends-trans}

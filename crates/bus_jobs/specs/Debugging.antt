@@ -6,8 +6,8 @@ use Rattle.uvm_glob.specs.Paths.{path_text}
 use Rattle.uvm_factory.specs.Faults.{Types}
 use Rattle.uvm_factory.specs.Overrides.{made_type}
 use Rattle.script_tables.specs.declared.rows.Probe.{Probe}
-use Rattle.script_tables.specs.declared.faults.ScriptFault.{ScriptFault}
-use Rattle.script_tables.specs.declared.faults.ScriptFault.TheVariants as faults
+use Rattle.script_values.specs.declared.faults.ScriptFault.{ScriptFault}
+use Rattle.script_values.specs.declared.faults.ScriptFault.TheVariants as faults
 use Rattle.bench_script.specs.Documents.{script_of_bytes}
 use Rattle.bench_script.specs.Scripts.{ScriptValue}
 use Rattle.bench_history.specs.History.{type_name_or}

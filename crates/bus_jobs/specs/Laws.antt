@@ -1,7 +1,7 @@
 -- Laws of all runs of the bus bench.
 use Rattle.std.specs.Prelude.{◌≡◌, ℕ, Bool, List, Option, Some, Result}
 use Rattle.rand_core.specs.Stream.{Stream}
-use Rattle.script_tables.specs.declared.faults.ScriptFault.{ScriptFault}
+use Rattle.script_values.specs.declared.faults.ScriptFault.{ScriptFault}
 use Rattle.bench_script.specs.Scripts.{ScriptValue}
 use Rattle.bus_jobs.specs.Runs.{IsBenchRun}
 use Rattle.script_input.specs.declared.breakages.Breakage.TheVariants.{Memory, LogFull, Output, Unread}

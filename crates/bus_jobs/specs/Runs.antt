@@ -4,9 +4,9 @@ use Rattle.std.specs.Io.KnownBytes.{Keeps}
 use Rattle.rand_core.specs.Stream.{Stream}
 use Rattle.bus_objects.specs.Objects.{name_of, object_named, says_of, view_of}
 use Rattle.bus_objects.specs.declared.objects.BusObject.{BusObject}
-use Rattle.script_tables.specs.declared.faults.ScriptFault.{ScriptFault}
-use Rattle.script_tables.specs.declared.faults.ScriptFault.TheVariants as faults
-use Rattle.script_tables.specs.Reading.{and_then}
+use Rattle.script_values.specs.declared.faults.ScriptFault.{ScriptFault}
+use Rattle.script_values.specs.declared.faults.ScriptFault.TheVariants as faults
+use Rattle.script_values.specs.Reading.{and_then}
 use Rattle.bench_script.specs.Documents.{script_of_bytes}
 use Rattle.bench_script.specs.Scripts.{ScriptValue}
 use Rattle.script_input.specs.Scripts.{chosen}

@@ -1,6 +1,6 @@
 -- The verdicts on a job of the bus bench.
 use Rattle.std.specs.Prelude.{ℕ, List, [], ◌∷◌, ◌++◌, codes}
-use Rattle.script_tables.specs.FaultTexts.{fault_text}
+use Rattle.script_values.specs.FaultTexts.{fault_text}
 use Rattle.script_input.specs.Breakages.{message_of}
 use Rattle.script_input.specs.declared.breakages.Breakage.TheVariants.{Output}
 use Rattle.bus_jobs.specs.declared.verdicts.Verdict.{Verdict}

@@ -53,6 +53,13 @@ impl Key {
         }
     }
 
+    /// Returns the text of the key.
+    pub fn as_bytes(&self) -> &[u8]
+        ensures { result.now ≡ self.now }
+    {
+        self.text.as_slice()
+    }
+
     /// Returns whether the key matches the call with this line: the line is the key. If the key ends in `*`, the line begins with the text
     /// before it.
     pub fn is_for(&self, line: &[u8]) -> bool

@@ -10,6 +10,21 @@ const ABOUT_RUN: &str = "Runs testbench files and prints what they report";
 const ABOUT_SERVE: &str =
     "Runs a testbench file whose objects are in another program, over standard input and output";
 
+const ABOUT_CHECK: &str =
+    "Checks testbench files without running them, and says where a mistake is";
+
+const AFTER_CHECK: &str =
+    "The error for which run rejects a file is FILE:LINE:COLUMN: PLACE: REASON, with the line and what would be right. Of a file that run accepts,
+warnings name what has no effect.
+
+Exit status:
+  0  no file is rejected
+  2  a file or the command line was refused
+  3  out of memory, output failed, or a file was not read
+
+Example, in crates/script_bench:
+  script_bench check data/mistakes/misspelled_type.toml";
+
 const AFTER_SERVE: &str =
     "The objects of types without [answers] are in another program, the client. It reads the questions from standard output, and writes the
 answers to standard input. Clients in Python and C++ are in clients/. A file of answers repeats a run.
@@ -41,16 +56,22 @@ Tutorial: docs/GUIDE.md. All keys, calls and actions: docs/REFERENCE.md";
 pub struct Options {
     /// The choice to print every entry of the log.
     pub trace: bool,
+    /// The choice to explain the run once it is over. `serve` has no such option.
+    pub explain: bool,
     /// The seed of the random numbers.
     pub seed: u64,
 }
 
-/// Creates the command line: `run [--trace] [--seed N] [--test NAME] FILE..`, and `serve` with the same options and one FILE. Errors: out of
-/// memory.
+/// Creates the command line: `run [--trace] [--explain] [--seed N] [--test NAME] FILE..`, `serve` with the same options but `--explain` and
+/// one FILE, and `check [--serve] FILE..`. Errors: out of memory.
 pub fn command<'a>(alloc: Global) -> Result<Command<'a>, AllocError> {
     let run = run_command(alloc)?;
     let serve = serve_command(alloc)?;
-    top_command(alloc).subcommand(run)?.subcommand(serve)
+    let check = check_command(alloc)?;
+    top_command(alloc)
+        .subcommand(run)?
+        .subcommand(serve)?
+        .subcommand(check)
 }
 
 // Creates `script_bench` without its subcommands.
@@ -63,11 +84,12 @@ fn top_command<'a>(alloc: Global) -> Command<'a> {
         .subcommand_required(true)
 }
 
-// Creates `run [--trace] [--seed N] [--test NAME] FILE..`. Errors: out of memory.
+// Creates `run [--trace] [--explain] [--seed N] [--test NAME] FILE..`. Errors: out of memory.
 fn run_command<'a>(alloc: Global) -> Result<Command<'a>, AllocError> {
-    run_options(alloc)?
-        .arg(test_arg(alloc))?
-        .arg(files_arg(alloc))
+    run_options(alloc)?.arg(test_arg(alloc))?.arg(files_arg(
+        alloc,
+        "A testbench file, in TOML. Of several, each is run by itself",
+    ))
 }
 
 // Creates `serve [--trace] [--seed N] [--test NAME] FILE`. Errors: out of memory.
@@ -81,13 +103,36 @@ fn serve_command<'a>(alloc: Global) -> Result<Command<'a>, AllocError> {
         .arg(file_arg(alloc))
 }
 
-// Creates `run [--trace] [--seed N]`. Errors: out of memory.
+// Creates `check [--serve] FILE..`. Errors: out of memory.
+fn check_command<'a>(alloc: Global) -> Result<Command<'a>, AllocError> {
+    let serve = Arg::new(alloc, "serve")
+        .long("serve")
+        .help("Checks files for serve: the types without answers are those of a client")
+        .action(ArgAction::SetTrue);
+    Command::new(alloc, "check")
+        .about(ABOUT_CHECK)
+        .after_help(AFTER_CHECK)
+        .arg(serve)?
+        .arg(files_arg(alloc, "A testbench file, in TOML"))
+}
+
+// Creates `run [--trace] [--explain] [--seed N]`. Errors: out of memory.
 fn run_options<'a>(alloc: Global) -> Result<Command<'a>, AllocError> {
     Command::new(alloc, "run")
         .about(ABOUT_RUN)
         .after_help(AFTER_HELP)
         .arg(trace_arg(alloc))?
+        .arg(explain_arg(alloc))?
         .arg(seed_arg(alloc))
+}
+
+fn explain_arg<'a>(alloc: Global) -> Arg<'a> {
+    Arg::new(alloc, "explain")
+        .long("explain")
+        .help(
+            "Says on standard error why the run ended as it did, what waits and what had no effect",
+        )
+        .action(ArgAction::SetTrue)
 }
 
 fn trace_arg<'a>(alloc: Global) -> Arg<'a> {
@@ -111,10 +156,10 @@ fn test_arg<'a>(alloc: Global) -> Arg<'a> {
     )
 }
 
-fn files_arg<'a>(alloc: Global) -> Arg<'a> {
+fn files_arg<'a>(alloc: Global, help: &'static str) -> Arg<'a> {
     Arg::new(alloc, "file")
         .value_name("FILE")
-        .help("A testbench file, in TOML. Of several, each is run by itself")
+        .help(help)
         .required(true)
         .num_args(1..)
 }
@@ -126,10 +171,11 @@ fn file_arg<'a>(alloc: Global) -> Arg<'a> {
         .required(true)
 }
 
-/// Returns the options of `run` or `serve`. The seed is 1 if it is omitted.
-pub fn options_of(run: &ArgMatches<'_>) -> Options {
+/// Returns the options of `run` or `serve`. The seed is 1 if it is omitted. `explains` says whether the command has the option `--explain`.
+pub fn options_of(run: &ArgMatches<'_>, explains: bool) -> Options {
     Options {
         trace: run.get_flag("trace"),
+        explain: explains && run.get_flag("explain"),
         seed: run.get_one("seed").unwrap_or(1),
     }
 }

@@ -1,8 +1,10 @@
 //! The program `script_bench`: `run FILE..` runs documents, each of which holds a script and the answers of its objects. `serve FILE` runs a
-//! document whose objects another program holds, except those with answers in the document.
+//! document whose objects another program holds, except those with answers in the document. `check FILE..` says what is wrong with documents.
 #![tactic(auto)]
 
+mod checks;
 mod commands;
+mod files;
 mod program;
 
 use script_input::Breakage;

@@ -1,45 +1,20 @@
 //! The commands of the program, on any runtime and with any writers.
 
+use crate::checks::check_files;
 use crate::commands::{Options, command, options_of};
+use crate::files::{BROKEN, REFUSED, bytes_of, report_unread};
 use bench_script::ScriptFault;
 use clap::error::ErrorKind;
 use clap::{ArgMatches, Error};
-use script_input::{Breakage, read_file};
-use script_jobs::run_bench;
+use script_explain::explain;
+use script_input::Breakage;
+use script_jobs::{EndedRun, Verdict, run_to_core};
 use serve_jobs::{Pipe, serve_bench, serve_nothing};
 use std::alloc::Global;
-use std::fs::File;
 use std::io::{BufRead, Write};
 use std::rt::{Env, Files};
-use std::{env, fs, io};
+use std::{env, io};
 use uvm_glob::{Name, PathFault};
-
-// The exit status if the command line or a file is rejected.
-const REFUSED: u8 = 2;
-
-// The exit status if the program or a run stops before its end.
-const BROKEN: u8 = 3;
-
-// The reason why a file is not read.
-#[derive(Clone, Copy)]
-enum Unread {
-    Missing,
-    Directory,
-    Unreadable,
-    Memory,
-}
-
-impl Unread {
-    // Returns the message about the file.
-    fn message(self) -> &'static str {
-        match self {
-            Unread::Missing => "no such file",
-            Unread::Directory => "is a directory",
-            Unread::Unreadable => "cannot read the file",
-            Unread::Memory => "memory",
-        }
-    }
-}
 
 /// Executes the command line and returns the exit status: the greatest of the files' statuses (0 clean, 1 faulty, 2 rejected, 3 broken). For
 /// help and the version it returns 0, or 3 if the text could not be written. It returns 2 if the command line is rejected, and 3 if memory
@@ -115,18 +90,34 @@ fn obey<R: Files + AllocGlobal, I: BufRead + Drop, O: Write + Drop, E: Write>(
     let Some((word, given)) = matches.subcommand() else {
         return REFUSED;
     };
+    if word == "check" {
+        return check_matched(rt, given, &mut out, err);
+    }
     let Ok(test) = test_of(given) else {
         let fault = ScriptFault::BadName.label();
         let _ = writeln!(err, "script_bench: --test: not a name ({fault})");
         return REFUSED;
     };
-    let options = options_of(given);
+    let options = options_of(given, word == "run");
     let Some(files) = given.get_strs("file") else {
         return REFUSED;
     };
     match (word, files) {
         ("serve", [file]) => serve_file(rt, file, &options, test.as_ref(), (input, out), err),
         _ => run_files(rt, files, &options, test.as_ref(), &mut out, err),
+    }
+}
+
+// Checks the files that the command line names. Returns the exit status.
+fn check_matched<R: Files + AllocGlobal, O: Write, E: Write>(
+    rt: &R,
+    given: &ArgMatches<'_>,
+    out: &mut O,
+    err: &mut E,
+) -> u8 {
+    match given.get_strs("file") {
+        Some(files) => check_files(rt, files, given.get_flag("serve"), out, err),
+        None => REFUSED,
     }
 }
 
@@ -229,38 +220,39 @@ fn run_file<R: Files + AllocGlobal, O: Write, E: Write>(
         Err(why) => return report_unread(file, why, err),
     };
     let (seed, trace) = (options.seed, options.trace);
-    let verdict = run_bench(rt.alloc(), bytes.as_slice(), seed, test, trace, out);
+    let (verdict, run) = run_to_core(rt.alloc(), bytes.as_slice(), seed, test, trace, out);
     if out.flush().is_err() {
         return broken(Breakage::Output, err);
     }
     let _ = verdict.write_line(file, err);
+    if options.explain
+        && is_explained(&verdict)
+        && let Some(run) = &run
+    {
+        explain_run(rt.alloc(), file, run, err);
+    }
     verdict.status()
 }
 
-// Writes why a file was not read to `err`, and returns the exit status, which is 3.
-fn report_unread<E: Write>(file: &str, why: Unread, err: &mut E) -> u8 {
-    let message = why.message();
-    let _ = writeln!(err, "script_bench: {file}: {message}");
-    BROKEN
+// Returns whether a run is explained: not if memory ran out or the output failed.
+fn is_explained(verdict: &Verdict) -> bool {
+    !matches!(
+        verdict,
+        Verdict::Broken(Breakage::Memory | Breakage::Output)
+    )
 }
 
-fn bytes_of<R: Files + AllocGlobal>(rt: &R, file: &str) -> Result<Vec<u8>, Unread> {
-    let mut opened = match File::open(rt, file) {
-        Ok(opened) => opened,
-        Err(error) if error.kind() == io::ErrorKind::NotFound => return Err(Unread::Missing),
-        Err(_) => return Err(Unread::Unreadable),
-    };
-    match read_file(rt.alloc(), &mut opened) {
-        Ok(bytes) => Ok(bytes),
-        Err(Breakage::Memory) => Err(Unread::Memory),
-        Err(_) if is_directory(rt, file) => Err(Unread::Directory),
-        Err(_) => Err(Unread::Unreadable),
+// Writes why a run ended as it did to `err`. If memory runs out, writes the whole lines that there are, and a line that says so.
+fn explain_run<E: Write>(alloc: Global, file: &str, run: &EndedRun, err: &mut E) {
+    let mut text = String::new(alloc);
+    let explained = explain(alloc, &run.core, &run.answers, &mut text);
+    if let Some((lines, _)) = text.as_str().rsplit_once('\n') {
+        let _ = writeln!(err, "{file}: {lines}");
     }
-}
-
-fn is_directory<R: Files>(rt: &R, file: &str) -> bool {
-    match fs::metadata(rt, file) {
-        Ok(data) => data.is_dir(),
-        Err(_) => false,
+    if explained.is_err() {
+        let _ = writeln!(
+            err,
+            "script_bench: {file}: the explanation ends here: memory"
+        );
     }
 }

@@ -4,16 +4,17 @@ use Rattle.rand_core.specs.Stream.{Stream}
 use Rattle.rand_core.specs.Pcg32Seed.{pcg32_seed}
 use Rattle.rand_core.specs.Steps.{stream_of, steps_u64_low}
 use Rattle.rand_pcg.specs.Pcg.{pcg64, pcg64_of_seed}
-use Rattle.script_tables.specs.declared.faults.ScriptFault.{ScriptFault}
-use Rattle.script_tables.specs.declared.faults.ScriptFault.TheVariants as faults
-use Rattle.script_tables.specs.Reading.{and_then}
+use Rattle.script_values.specs.declared.faults.ScriptFault.{ScriptFault}
+use Rattle.script_values.specs.declared.faults.ScriptFault.TheVariants as faults
+use Rattle.script_values.specs.Places.{with_fault}
+use Rattle.script_values.specs.Reading.{and_then}
 use Rattle.bench_script.specs.Documents.{test_among}
 use Rattle.bench_script.specs.Scripts.{ScriptValue}
 
 -- the script with the requested test, if one is given, in place of its own
 abbrev pub with_test : Option (List ℕ) → ScriptValue → Result ScriptValue ScriptFault
 with_test None script = Ok script
-with_test (Some name) script = and_then (test_among script.types (Some name)) (λ test. Ok (record script { test = test }))
+with_test (Some name) script = and_then (with_fault (test_among script.types (Some name))) (λ test. Ok (record script { test = test }))
 
 -- the script, if it has a test; otherwise the error `Missing`
 abbrev pub tested : ScriptValue → Result ScriptValue ScriptFault

@@ -5,22 +5,25 @@ use Rattle.std.specs.Option.{option_or}
 use Rattle.std.specs.Io.KnownBytes.{Keeps}
 use Rattle.toml.specs.Data.{Data, Members, as_table, get_member}
 use Rattle.rand_core.specs.Stream.{Stream}
-use Rattle.script_tables.specs.declared.faults.ScriptFault.{ScriptFault}
-use Rattle.script_tables.specs.declared.faults.ScriptFault.TheVariants as faults
-use Rattle.script_tables.specs.Keys.{optional, some_of}
-use Rattle.script_tables.specs.Reading.{and_then}
-use Rattle.script_tables.specs.Values.{name_in}
+use Rattle.script_values.specs.declared.faults.ScriptFault.{ScriptFault}
+use Rattle.script_values.specs.declared.faults.ScriptFault.TheVariants as faults
+use Rattle.script_values.specs.declared.reasons.Reason.{Reason}
+use Rattle.script_values.specs.Keys.{optional, some_of}
+use Rattle.script_values.specs.Places.{unplaced, with_fault}
+use Rattle.script_values.specs.Reading.{and_then}
+use Rattle.script_values.specs.Values.{name_in}
 use Rattle.script_tables.specs.Tables.{types_in}
 use Rattle.bench_script.specs.Documents.{script_beside, tree_of_bytes}
 use Rattle.bench_script.specs.Scripts.{ScriptValue}
 use Rattle.uvm_factory.specs.Faults.{Types, type_named}
 use Rattle.bench_run.specs.RunResults.{is_clean}
-use Rattle.bench_run.specs.Running.{IsRun}
+use Rattle.bench_run.specs.Running.{HasRun, IsRun}
 use Rattle.bench_run.specs.Texts.{TookSome}
 use Rattle.bench_run.specs.declared.run_results.RunResult.{RunResult}
 use Rattle.bench_run.specs.declared.faults.RunFault.{RunFault}
 use Rattle.script_input.specs.Scripts.{chosen}
 use Rattle.script_input.specs.Breakages.{breakage_of}
+use Rattle.script_input.specs.declared.breakages.Breakage.{Breakage}
 use Rattle.script_input.specs.declared.breakages.Breakage.TheVariants as broke
 use Rattle.bus_objects.specs.Objects.{object_named as bus_object}
 use Rattle.script_objects.specs.Answers.{TypeValue, rules_named}
@@ -29,6 +32,7 @@ use Rattle.script_objects.specs.Faults.{place_text}
 use Rattle.script_objects.specs.Tables.{AreTypesOf}
 use Rattle.script_jobs.specs.Objects.{name_of, object_named, says_of, view_of}
 use Rattle.script_jobs.specs.declared.objects.BenchObject.{BenchObject}
+use Rattle.script_jobs.specs.declared.runs.EndedRun.{EndedRun}
 use Rattle.script_jobs.specs.declared.verdicts.Refusal.{Refusal}
 use Rattle.script_jobs.specs.declared.verdicts.Refusal.TheVariants.{Script, UnknownTest, NoTable, UnknownType, NoObject, Answers}
 use Rattle.script_jobs.specs.declared.verdicts.Verdict.{Verdict}
@@ -44,7 +48,7 @@ abbrev pub RanOutEarly : Result Members ScriptFault → Option (List ℕ) → Op
 RanOutEarly root test before after = IfOk root (λ root. IfOk (script_to_run root test) (λ script. TookSome script before after))
 
 -- the name of the test in a document, if it has one
-abbrev pub own_test : Members → Result (Option (List ℕ)) ScriptFault
+abbrev pub own_test : Members → Result (Option (List ℕ)) Reason
 own_test root = optional (codes "test") None (some_of name_in) root
 
 -- a name, if no type has it
@@ -54,7 +58,7 @@ undeclared types (Some name) = if is_none (type_named types name) then Some name
 
 -- the name of a test that is not a declared type: the document's own, otherwise the requested one
 abbrev pub lost_test : Members → Option (List ℕ) → Result (Option (List ℕ)) ScriptFault
-lost_test root asked = and_then (types_in root) (λ types. and_then (own_test root) (λ own. Ok (option_or (undeclared types own) (undeclared types asked))))
+lost_test root asked = and_then (unplaced (types_in root)) (λ types. and_then (with_fault (own_test root)) (λ own. Ok (option_or (undeclared types own) (undeclared types asked))))
 
 -- the reason to reject a script: `UnknownTest` if the test is not a declared type, otherwise the error itself
 abbrev pub refusal_by : ScriptFault → Result (Option (List ℕ)) ScriptFault → Refusal
@@ -184,3 +188,28 @@ IsUnread parsed old new verdict = (((fault : ScriptFault) × (parsed ≡ Err fau
 abbrev pub IsBenchRun : List ℕ → Option (List ℕ) → Stream → Bool → Option (List ℕ) → Option (List ℕ) → Verdict → Type 0
 IsBenchRun bytes test words trace old new verdict =
     ((root : Members) × (tree_of_bytes bytes ≡ Ok root) × IsTreeRun root test words trace old new verdict) ⊎ IsUnread (tree_of_bytes bytes) old new verdict
+
+-- the verdict on the result of a run
+abbrev pub IsVerdictOn : Result RunResult RunFault → Verdict → Type 0
+IsVerdictOn (Ok run_result) verdict = verdict ≡ (if is_clean run_result then Clean else Faulty)
+IsVerdictOn (Err fault) verdict = (breakage : Breakage) × (Some breakage ≡ breakage_of fault) × (verdict ≡ Broken breakage)
+
+-- A run of a document that has ended or was aborted: its core has the log whose text was written, and its answers are those of the document.
+pub record HasEnded (parsed : Result Members ScriptFault) (test : Option (List ℕ)) (trace : Bool) (old new : Option (List ℕ)) (verdict : Verdict) (run : EndedRun) : Type 0 where
+  pub root : Members
+  pub script : ScriptValue
+  pub result : Result RunResult RunFault
+  pub read : parsed ≡ Ok root
+  pub bench : HasBench root test script run.answers
+  pub ran : HasRun run.core script trace old new result
+  pub judged : IsVerdictOn result verdict
+
+-- a document without a run: it is rejected, or memory ran out
+abbrev pub HasNoRun : Verdict → Type 0
+HasNoRun Clean = ⊥
+HasNoRun Faulty = ⊥
+HasNoRun (Refused refusal) = Unit {0}
+HasNoRun (Broken broke.Memory) = Unit {0}
+HasNoRun (Broken broke.LogFull) = ⊥
+HasNoRun (Broken broke.Output) = ⊥
+HasNoRun (Broken broke.Unread) = Unit {0}

@@ -1,7 +1,7 @@
 -- The verdicts on a document, and the messages about it.
 use Rattle.std.specs.Prelude.{ℕ, List, [], ◌∷◌, ◌++◌, codes, string_bytes}
-use Rattle.script_tables.specs.FaultTexts.{fault_text}
-use Rattle.script_tables.specs.declared.faults.ScriptFault.TheVariants.{UnknownType as unknown_type}
+use Rattle.script_values.specs.FaultTexts.{fault_text}
+use Rattle.script_values.specs.declared.faults.ScriptFault.TheVariants.{UnknownType as unknown_type}
 use Rattle.script_input.specs.Breakages.{message_of}
 use Rattle.script_jobs.specs.declared.verdicts.Refusal.{Refusal}
 use Rattle.script_jobs.specs.declared.verdicts.Refusal.TheVariants.{Script, UnknownTest, NoTable, UnknownType, NoObject, Answers}

@@ -9,5 +9,5 @@ mod verdicts;
 
 pub use answers::declared_answers;
 pub use objects::BenchObject;
-pub use runs::{reported, run_bench, script_to_run};
+pub use runs::{EndedRun, reported, run_bench, run_to_core, script_to_run};
 pub use verdicts::{Refusal, Verdict};

@@ -1,26 +1,26 @@
 //! The run of a document.
 
-ghost use Rattle.std.specs.Prelude.{◌≡◌, ◌≢◌, IfErr, IfOk, IsSome, MatchResult, Ok, Err, if◌then◌else◌, option_copied};
+ghost use Rattle.std.specs.Prelude.{◌≡◌, ◌≢◌, IfErr, IfNone, IfOk, IfSome, IsSome, MatchResult, Ok, Err, option_copied, option_map};
 ghost use Rattle.toml.specs.View.{table_view};
-ghost use Rattle.script_tables.specs.Reading.{IsReading};
-ghost use Rattle.bench_run.specs.RunResults.{is_clean};
+ghost use Rattle.script_values.specs.Reading.{IsReading};
+ghost use Rattle.bench_run.specs.Running.{HasNoCore, HasRun};
 ghost use Rattle.bench_run.specs.Texts.{TookTexts};
 ghost use Rattle.bench_script.specs.Documents.{IsReadable, tree_of_bytes};
 ghost use Rattle.script_input.specs.Scripts.{words_of_seed};
-ghost use Rattle.script_jobs.specs.Runs.{GivesNamed, IsBenchRun, IsReported, IsScriptRun, IsTreeRun, RanOutEarly, lost_test, own_test, refused_by, script_to_run, undeclared};
+ghost use Rattle.script_jobs.specs.Runs.{GivesNamed, HasEnded, HasNoRun, IsBenchRun, IsReported, IsScriptRun, IsTreeRun, IsVerdictOn, RanOutEarly, lost_test, own_test, refused_by, script_to_run, undeclared};
 
 use crate::answers::{ANSWERS, answers_in};
 use crate::objects::BenchObject;
 use crate::verdicts::{Refusal, Verdict};
-use bench_run::{RunFault, RunResult, Sink, run_script};
-use bench_script::{Script, ScriptFault, read_document, read_table};
+use bench_run::{Core, RunFault, RunResult, Sink};
+use bench_script::{Reason, Script, ScriptFault, read_document, read_table};
 use rand_core::{Rng, SeedableRng};
 use rand_pcg::Pcg64;
 use script_input::{Breakage, choose_test};
 use script_objects::Answers;
-use script_tables::keys::member;
-use script_tables::values::name;
 use script_tables::{TypeTable, read_types};
+use script_values::keys::member;
+use script_values::values::name;
 use std::alloc::{AllocError, Global};
 use toml::Table;
 use uvm_glob::Name;
@@ -46,9 +46,39 @@ pub fn run_bench<S: Sink>(
     ensures room { result ≡ Verdict.Broken Breakage.Memory → RanOutEarly (tree_of_bytes bytes.now) (option_copied test.entry) (S.taken out.old) (S.taken out.new) }
     ensures output { result ≡ Verdict.Broken Breakage.Output → S.refuses out.old }
 {
+    let (verdict, _run) = run_to_core(alloc, bytes, seed, test, trace, out);
+    verdict
+}
+
+/// A run that has ended or was aborted: its core, with the log and the state at its end, and the answers of its objects.
+#[derive(Drop)]
+pub struct EndedRun {
+    /// The core.
+    pub core: Core,
+    /// The answers of the document.
+    pub answers: Answers,
+}
+
+/// Runs the script in a document as `run_bench` does, and returns the run with the verdict. There is none if the document is rejected,
+/// and there may be none if memory runs out.
+pub fn run_to_core<S: Sink>(
+    alloc: Global,
+    bytes: &[u8],
+    seed: u64,
+    test: Option<&Name>,
+    trace: bool,
+    out: &mut S,
+) -> (Verdict, Option<EndedRun>)
+    ensures run { IsBenchRun bytes.now (option_copied test.entry) (words_of_seed seed) trace (S.contents out.old) (S.contents out.new) result.0 }
+    ensures memory { result.0 ≡ Verdict.Broken Breakage.Memory → IsReadable bytes.now }
+    ensures room { result.0 ≡ Verdict.Broken Breakage.Memory → RanOutEarly (tree_of_bytes bytes.now) (option_copied test.entry) (S.taken out.old) (S.taken out.new) }
+    ensures output { result.0 ≡ Verdict.Broken Breakage.Output → S.refuses out.old }
+    ensures ended { IfSome result.1 (HasEnded (tree_of_bytes bytes.now) (option_copied test.entry) trace (S.contents out.old) (S.contents out.new) result.0) }
+    ensures kept { IfNone result.1 (HasNoRun result.0) }
+{
     match read_document(alloc, bytes) {
         Ok(root) => run_tree(alloc, &root, seed, test, trace, out),
-        Err(fault) => refused(fault),
+        Err(fault) => (refused(fault), None),
     }
 }
 
@@ -62,7 +92,7 @@ fn refused(fault: ScriptFault) -> Verdict
     }
 }
 
-// Runs the script in the tree of a document, as `run_bench` does.
+// Runs the script in the tree of a document, as `run_to_core` does.
 fn run_tree<S: Sink>(
     alloc: Global,
     root: &Table,
@@ -70,24 +100,34 @@ fn run_tree<S: Sink>(
     test: Option<&Name>,
     trace: bool,
     out: &mut S,
-) -> Verdict
-    ensures run { IsTreeRun (table_view root.now) (option_copied test.entry) (words_of_seed seed) trace (S.contents out.old) (S.contents out.new) result }
-    ensures room { result ≡ Verdict.Broken Breakage.Memory → RanOutEarly (Ok (table_view root.now)) (option_copied test.entry) (S.taken out.old) (S.taken out.new) }
-    ensures output { result ≡ Verdict.Broken Breakage.Output → S.refuses out.old }
+) -> (Verdict, Option<EndedRun>)
+    ensures run { IsTreeRun (table_view root.now) (option_copied test.entry) (words_of_seed seed) trace (S.contents out.old) (S.contents out.new) result.0 }
+    ensures room { result.0 ≡ Verdict.Broken Breakage.Memory → RanOutEarly (Ok (table_view root.now)) (option_copied test.entry) (S.taken out.old) (S.taken out.new) }
+    ensures output { result.0 ≡ Verdict.Broken Breakage.Output → S.refuses out.old }
+    ensures ended { IfSome result.1 (HasEnded (Ok (table_view root.now)) (option_copied test.entry) trace (S.contents out.old) (S.contents out.new) result.0) }
+    ensures kept { IfNone result.1 (HasNoRun result.0) }
 {
     let script = match script_to_run(alloc, root, test) {
         Ok(script) => script,
-        Err(fault) => return reported(alloc, root, test, fault),
+        Err(fault) => return (reported(alloc, root, test, fault), None),
     };
     let answers = match answers_in(alloc, root, &script) {
         Ok(answers) => answers,
-        Err(verdict) => return verdict,
+        Err(verdict) => return (verdict, None),
     };
     let mut words = Pcg64::seed_from_u64(seed);
-    match run_objects(alloc, script, &answers, &mut words, trace, out) {
-        Ok(run_result) => verdict_on(&run_result),
-        Err(fault) => Verdict::Broken(Breakage::of(fault)),
-    }
+    let (ended, core) = run_objects(alloc, script, &answers, &mut words, trace, out);
+    (verdict_on(&ended), ended_run(core, answers))
+}
+
+// Returns the run with this core, if there is one.
+fn ended_run(core: Option<Core>, answers: Answers) -> Option<EndedRun>
+    ensures { result ≡ option_map (λ core. record { core = core; answers = answers }) core }
+{
+    Some(EndedRun {
+        core: core?,
+        answers,
+    })
 }
 
 /// Returns the verdict on an error of a script: rejected, or out of memory. For `UnknownType` the verdict names the test, if no declared type
@@ -127,7 +167,7 @@ fn lost_test(alloc: Global, root: &Table, test: Option<&Name>) -> Result<Option<
 }
 
 // Returns the name of the test in a document, or `None` if it has none. Errors: that of the value at `test`, if it is not a name.
-fn own_test(root: &Table) -> Result<Option<Name>, ScriptFault>
+fn own_test(root: &Table) -> Result<Option<Name>, Reason>
     ensures { result ≡ own_test (table_view root.now) }
 {
     match member(root, "test") {
@@ -146,14 +186,15 @@ fn undeclared(types: &TypeTable, name: Option<&Name>) -> Option<Name>
     }
 }
 
-// Returns the verdict on a run that has ended.
-fn verdict_on(run_result: &RunResult) -> Verdict
-    ensures { result ≡ (if is_clean run_result.now then Verdict.Clean else Verdict.Faulty) }
+// Returns the verdict on a run. Requires that its script has a test.
+fn verdict_on(ended: &Result<RunResult, RunFault>) -> Verdict
+    requires { ended.now ≢ Err RunFault.NoTest }
+    ensures { IsVerdictOn ended.now result }
 {
-    if run_result.is_clean() {
-        Verdict::Clean
-    } else {
-        Verdict::Faulty
+    match ended {
+        Ok(run_result) if run_result.is_clean() => Verdict::Clean,
+        Ok(_) => Verdict::Faulty,
+        Err(fault) => Verdict::Broken(Breakage::of(*fault)),
     }
 }
 
@@ -172,7 +213,7 @@ pub fn script_to_run(
     choose_test(read_table(alloc, root, &[ANSWERS])?, test)
 }
 
-// Runs a script with the objects of a document.
+// Runs a script with the objects of a document, and returns the core too.
 fn run_objects<R: Rng, S: Sink>(
     alloc: Global,
     script: Script,
@@ -180,14 +221,16 @@ fn run_objects<R: Rng, S: Sink>(
     words: &mut R,
     trace: bool,
     out: &mut S,
-) -> Result<RunResult, RunFault>
+) -> (Result<RunResult, RunFault>, Option<Core>)
     requires { IsSome script.test }
-    ensures run { IsScriptRun answers.now (R.stream words.old) script trace (S.contents out.old) (S.contents out.new) result }
-    ensures texts { TookTexts script (S.taken out.old) (S.taken out.new) result }
-    ensures output { result ≡ Err RunFault.Output → S.refuses out.old }
-    ensures tested { IfErr result (λ fault. fault ≢ RunFault.NoTest) }
+    ensures run { IsScriptRun answers.now (R.stream words.old) script trace (S.contents out.old) (S.contents out.new) result.0 }
+    ensures texts { TookTexts script (S.taken out.old) (S.taken out.new) result.0 }
+    ensures output { result.0 ≡ Err RunFault.Output → S.refuses out.old }
+    ensures tested { result.0 ≢ Err RunFault.NoTest }
+    ensures core { IfSome result.1 (λ core. HasRun core script trace (S.contents out.old) (S.contents out.new) result.0) }
+    ensures kept { IfNone result.1 (HasNoCore result.0) }
 {
-    run_script(
+    bench_run::run_to_core(
         alloc,
         script,
         words,

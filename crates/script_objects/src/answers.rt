@@ -39,6 +39,13 @@ impl TypeRules {
     {
         &self.type_name
     }
+
+    /// Returns the rules, those whose key fixes more bytes of a line first.
+    pub fn rules(&self) -> &[Rule]
+        ensures { result.now ≡ self.now.rules }
+    {
+        self.rules.as_slice()
+    }
 }
 
 /// The answers of all types.

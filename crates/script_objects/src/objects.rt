@@ -50,6 +50,13 @@ impl<'a> Scripted<'a> {
         })
     }
 
+    /// Returns the number of answers that each of its rules has given.
+    pub fn counts(&self) -> &[usize]
+        ensures { result.now ≡ self.now.used }
+    {
+        self.used.as_slice()
+    }
+
     /// Returns the actions that the object answers to a call, and counts the answer of its rule. Errors: out of memory. An error changes
     /// nothing.
     pub fn answer_call(&mut self, alloc: Global, call: &Call) -> Result<Acts, AllocError>

@@ -1,6 +1,7 @@
 //! The rules of scripted answers.
 
 ghost use Rattle.std.specs.Prelude.{◌≡◌, option_copied};
+ghost use Rattle.script_answers.specs.Keys.{is_for};
 ghost use Rattle.script_objects.specs.Rules.{answer_of, needs_item};
 
 use script_answers::{AnswerAct, Key};
@@ -27,6 +28,20 @@ impl Model for Rule {
 }
 
 impl Rule {
+    /// Returns the key: the line of a call as in the transcript, or its first words followed by `*`.
+    pub fn key(&self) -> &[u8]
+        ensures { result.now ≡ self.now.key }
+    {
+        self.key.as_bytes()
+    }
+
+    /// Returns whether the key matches the call with this line.
+    pub fn is_for(&self, line: &[u8]) -> bool
+        ensures { result ≡ is_for self.now.key line.now }
+    {
+        self.key.is_for(line)
+    }
+
     // Returns the answer to the call with this line, if the rule has one that can be given. `used` is the number of answers that the rule
     // has given; `has_item` says whether the call has an item.
     pub(crate) fn answer(&self, line: &[u8], used: usize, has_item: bool) -> Option<&[AnswerAct]>

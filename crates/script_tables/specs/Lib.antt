@@ -1,6 +1,7 @@
+pub mod Drains
+pub mod ReportTables
 pub mod Rows
 pub mod Tables
-pub mod ReportTables
 pub use Rattle.uvm_config.specs.Answers
 pub use Rattle.uvm_factory.specs.Faults
 pub use Rattle.uvm_factory.specs.Overrides
@@ -9,9 +10,3 @@ pub use Rattle.uvm_glob.specs.Globs
 pub use Rattle.uvm_glob.specs.Names
 pub use Rattle.uvm_glob.specs.Paths
 pub use Rattle.uvm_report.specs.Severities
-pub mod Drains
-pub mod Elements
-pub mod FaultTexts
-pub mod Keys
-pub mod Reading
-pub mod Values

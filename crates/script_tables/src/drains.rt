@@ -3,12 +3,14 @@
 ghost use Rattle.std.specs.Prelude.{◌≡◌, ◌≢◌, ◌≤◌, Ok, Err, MatchResult, IfOk, IfSome, All, true};
 ghost use Rattle.toml.specs.View.{view, table_view};
 ghost use Rattle.uvm_phase.specs.Phases.{is_task};
-ghost use Rattle.script_tables.specs.Reading.{IsReading};
+ghost use Rattle.script_values.specs.Reading.{IsRow};
 ghost use Rattle.script_tables.specs.Drains.{CanDrain, drain_row, drains_in, task_in, task_named};
 
-use crate::ScriptFault;
-use crate::keys::{elements, required, table};
-use crate::values::{number, path, text};
+use script_values::keys::{elements, required, row_of};
+use script_values::values::{number, text};
+use script_values::{
+    Column, FaultyRow, FaultyScript, Reason, TableArray, in_column, in_row, path_at,
+};
 use std::alloc::{AllocError, Global};
 use toml::{Table, Value};
 use uvm_glob::Path;
@@ -38,40 +40,44 @@ impl Drain {
     }
 }
 
-/// Reads the drain times from the array `drain` of a document, row by row. Errors: `WrongKind` if the value of the key is not an
+/// Reads the drain times from the array `drain` of a document, row by row. Errors: `NotArray` if the value of the key is not an
 /// array; the first error of a row; out of memory.
-pub fn read_drains(alloc: Global, root: &Table) -> Result<Vec<Drain>, ScriptFault>
+pub fn read_drains(alloc: Global, root: &Table) -> Result<Vec<Drain>, FaultyScript>
     ensures sound { IfOk result (λ rows. All CanDrain rows.items) }
     ensures rows { MatchResult result
         (λ rows. drains_in (table_view root.now) ≡ Ok rows.items)
-        (λ fault. fault ≢ ScriptFault.Memory → drains_in (table_view root.now) ≡ Err fault) }
+        (λ faulty. faulty.reason ≢ Reason.Memory → drains_in (table_view root.now) ≡ Err faulty) }
 {
     let mut rows = Vec::new(alloc);
-    for element in elements(root, "drain")? {
-        rows.push(drain_row(alloc, element)?)?;
+    for element in elements(root, TableArray::Drain)? {
+        let read = drain_row(alloc, element);
+        rows.push(in_row(read, TableArray::Drain, rows.len())?)?;
     }
     Ok(rows)
 }
 
 #[tactic(auto, unfolding(crate::specs::Drains::CanDrain))]
-fn drain_row(alloc: Global, element: &Value) -> Result<Drain, ScriptFault>
-    ensures row { IsReading (drain_row (view element.now)) result }
+fn drain_row(alloc: Global, element: &Value) -> Result<Drain, FaultyRow>
+    ensures row { IsRow (drain_row (view element.now)) result }
     ensures sound { IfOk result CanDrain }
 {
-    let table = table(element, &["path", "phase", "ticks"])?;
-    let path = path(alloc, required(table, "path")?)?;
-    let phase = task(required(table, "phase")?)?;
-    let ticks = number(required(table, "ticks")?, MAX_TICKS)?;
+    let table = row_of(element, TableArray::Drain)?;
+    let path = path_at(alloc, table, Column::Path)?;
+    let phase = in_column(task(required(table, Column::Phase)?), Column::Phase)?;
+    let ticks = in_column(
+        number(required(table, Column::Ticks)?, MAX_TICKS),
+        Column::Ticks,
+    )?;
     Ok(Drain { path, phase, ticks })
 }
 
-// Returns the phase that a value names, which takes time. Errors: `WrongKind` if the value is not a text; `OutOfRange` if the
-// text names no such phase.
-fn task(value: &Value) -> Result<Phase, ScriptFault>
+// Returns the phase that a value names, which takes time. Errors: `NotString` if the value is not a text; `NotTaskPhase` if
+// the text names no such phase.
+fn task(value: &Value) -> Result<Phase, Reason>
     ensures phase { result ≡ task_in (view value.now) }
     ensures task { IfOk result (λ phase. is_task phase ≡ true) }
 {
-    task_named(text(value)?).ok_or(ScriptFault::OutOfRange)
+    task_named(text(value)?).ok_or(Reason::NotTaskPhase)
 }
 
 fn task_named(word: &str) -> Option<Phase>

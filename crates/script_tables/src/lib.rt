@@ -2,17 +2,13 @@
 #![tactic(auto)]
 
 mod drains;
-pub mod faults;
-pub mod keys;
 mod report_settings;
 mod report_tables;
 mod rows;
 mod tables;
 mod type_tables;
-pub mod values;
 
 pub use drains::{Drain, read_drains};
-pub use faults::ScriptFault;
 pub use report_settings::{ActionSetting, SeverityChange, VerbositySetting};
 pub use report_tables::{read_actions, read_severities, read_verbosities};
 pub use rows::{Probe, Setting};

@@ -1,6 +1,6 @@
 //! Tests of the queries of a core during a run.
 
-use test_runs::{Count, Scenario, shows};
+use test_runs::{Count, Scenario, answered, shows};
 use uvm_phase::Phase;
 
 const SCRIPT: &[u8] =
@@ -183,4 +183,20 @@ fn objections_of_two_phases_are_counted_apart(rt: HostRuntime) {
             Scenario::Counts(Count::Raised(Phase::Build), top, "")
         )
     );
+}
+
+const KEYS: &[u8] = b"version = 1
+test = \"t\"
+type = [{ name = \"t\", kind = \"component\" }]
+[answers.t]
+\"*\" = [\"get f\"]
+build = [[\"get a\"], [\"get b\"]]
+run = [\"raise 1\"]
+";
+
+// The key `build` has two answers, each given once; `*` is the shortest key, and answers the third call.
+#[test]
+fn keys_tell_how_often_they_have_answered(rt: HostRuntime) {
+    let text = answered(rt.alloc(), KEYS, "t", 3);
+    assert!(rt; text.is_some_and(|text| text.as_str() == "201"));
 }

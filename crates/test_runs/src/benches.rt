@@ -14,7 +14,8 @@ use std::alloc::{AllocError, Global};
 use std::str::from_utf8;
 use toml::Table;
 use uvm_glob::Name;
-use uvm_object::UvmObject;
+use uvm_object::{Call, UvmObject};
+use uvm_phase::Phase;
 
 /// A bench file, and the scenario that its run must show.
 #[derive(Clone, Copy)]
@@ -204,4 +205,21 @@ pub fn shows_in_boxes(alloc: Global, file: &[u8], waits: usize, scenario: Scenar
         }
     };
     shows_with(alloc, file, scenario, &make)
+}
+
+/// Returns how often each key of a type has answered, as one digit for each, after an object of the type has received `build` this often.
+/// `None` if the file is rejected or memory runs out.
+pub fn answered(alloc: Global, file: &[u8], type_name: &str, builds: usize) -> Option<String> {
+    let root = read_document(alloc, file).ok()?;
+    let answers = answers_of(alloc, &root)?;
+    let name = Name::new(type_name.as_bytes()).ok()?;
+    let mut object = scripted(alloc, &answers, &name).ok()??;
+    for _build in 0..builds {
+        let _acts = object.answer_call(alloc, &Call::Phase(Phase::Build)).ok()?;
+    }
+    let mut text = String::new(alloc);
+    for count in object.counts() {
+        write!(&mut text, "{count}").ok()?;
+    }
+    Some(text)
 }

@@ -9,7 +9,7 @@ mod runs;
 
 pub use bench_run::{RunFault, RunResult, Sink, run_script};
 pub use benches::{
-    Scenario, make_idle, make_mute, make_spinner, shows, shows_in_boxes, shows_with,
+    Scenario, answered, make_idle, make_mute, make_spinner, shows, shows_in_boxes, shows_with,
 };
 pub use counts::Count;
 pub use objects::{Idle, Mute, Spinner};

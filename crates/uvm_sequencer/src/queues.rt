@@ -48,6 +48,13 @@ impl Queue {
         }
     }
 
+    // Returns the requests in order.
+    pub(crate) fn requests(&self) -> &[Request]
+        ensures { result.now ≡ self.now }
+    {
+        self.requests.behind(0)
+    }
+
     // Returns the number of requests. Each sequence has at most one item request and one lock request.
     pub(crate) fn len(&self) -> usize
         ensures count { result ≡ length self.now }

@@ -18,6 +18,7 @@ use crate::drivers::{Asked, Driver, How};
 use crate::faults::SeqFault;
 use crate::modes::Mode;
 use crate::queues::Queue;
+use crate::requests::Request;
 use crate::scans;
 use std::alloc::Global;
 use std::marker::Model;
@@ -328,6 +329,27 @@ impl Sequencer {
     {
         let rest = self.queue.behind(known);
         known + scans::count_passed(sequences, &self.holders, rest)
+    }
+
+    /// Returns the item requests and lock requests that wait, in the order of the queue.
+    pub fn requests(&self) -> &[Request]
+        ensures { result.now ≡ self.now.queue }
+    {
+        self.queue.requests()
+    }
+
+    /// Returns whether a sequence holds a lock.
+    pub fn holds(&self, seq: SeqId) -> bool
+        ensures { result ≡ is_held seq self.now.holders }
+    {
+        self.holders.holds(seq)
+    }
+
+    /// Returns the state of the driver.
+    pub fn driver(&self) -> &Driver
+        ensures { result.now ≡ self.now.driver }
+    {
+        &self.driver
     }
 
     /// Returns the number of item requests and lock requests that wait. Each sequence has at most one of each.

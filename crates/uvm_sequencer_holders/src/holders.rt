@@ -118,6 +118,13 @@ impl Holders {
         self.runs.is_empty()
     }
 
+    /// Returns whether a sequence holds a lock.
+    pub fn holds(&self, seq: SeqId) -> bool
+        ensures { result ≡ is_held seq self.now.list }
+    {
+        last_run(self.runs.as_slice(), seq).is_some()
+    }
+
     /// Returns whether some holder is neither the sequence itself nor one of its ancestors.
     pub fn is_blocked(&self, sequences: &Sequences, seq: SeqId) -> bool
         ensures { result ≡ is_blocked sequences.now.started self.now.list seq }

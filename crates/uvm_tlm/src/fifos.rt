@@ -255,6 +255,20 @@ impl<O: InPhase> Fifo<O> {
         self.items.get(place).copied()
     }
 
+    /// Returns the puts that wait, the earliest first: those of the first slice, then those of the second.
+    pub fn puts(&self) -> (&[WaitingPut<O>], &[WaitingPut<O>])
+        ensures { result.0.now ++ result.1.now ≡ self.now.puts }
+    {
+        self.puts.as_slices()
+    }
+
+    /// Returns the takes and peeks that wait, the earliest first: those of the first slice, then those of the second.
+    pub fn takes(&self) -> (&[WaitingTake<O>], &[WaitingTake<O>])
+        ensures { result.0.now ++ result.1.now ≡ self.now.takes }
+    {
+        self.takes.as_slices()
+    }
+
     /// Returns the number of puts, takes and peeks that wait.
     pub fn waiting(&self) -> usize
         ensures { result ≡ waiting_count self.now }

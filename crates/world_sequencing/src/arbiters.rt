@@ -1,6 +1,6 @@
 //! The sequencers of a testbench with their drivers (IEEE 1800.2-2020, Clause 15).
 
-ghost use Rattle.std.specs.Prelude.{◌≡◌, ◌++◌, true, nat_eq, length, map, Some, None, OnOk, OnErr, IfOk, IfErr, option_and_then, ◌<◌, IsSome, is_some};
+ghost use Rattle.std.specs.Prelude.{◌≡◌, ◌++◌, true, nat_eq, length, map, Some, None, OnOk, OnErr, IfOk, IfErr, option_and_then, option_copied, ◌<◌, IsSome, is_some};
 ghost use Rattle.std.specs.HashMap.{get};
 ghost use Rattle.std.specs.Option.{option_map_or};
 ghost use Rattle.uvm_glob.specs.Faults.{unless};
@@ -11,6 +11,7 @@ ghost use Rattle.bench_history.specs.Arbitration.{ends_ask};
 ghost use Rattle.bench_history.specs.Dues.{calls_of_item};
 ghost use Rattle.bench_history.specs.Refusals.{ask_refusal, done_refusal, item_refusal, lock_refusal, unlock_refusal};
 ghost use Rattle.uvm_sequencer.specs.Passed.{IsPassed};
+ghost use Rattle.uvm_sequencer.specs.Queues.{is_held};
 ghost use Rattle.world_sequencing.specs.GrantIndexes.{AreKnown, IsKnown};
 ghost use Rattle.world_sequencing.specs.Arbiters.{AddsArbiter, ChangesAt, ChangesEach, at_sequencer, asked_at, asked_in, ended_at, grabbed_if, lapsed_in, lapsed_with, locked_if, locked_in, lock_in, mode_of, new_arbiter, ready_in, requested_if, sent_if, served_in, unlocked_if};
 
@@ -21,7 +22,7 @@ use std::collections::HashMap;
 use std::marker::Model;
 use uvm_object::{Call, Fatal, What};
 use uvm_phase::Phase;
-use uvm_sequencer::{Asked, How, Mode, SeqFault, Sequencer};
+use uvm_sequencer::{Asked, Driver, How, Mode, Request, SeqFault, Sequencer};
 use uvm_sequences::{SeqId, Sequences};
 use uvm_tlm::Item;
 use uvm_tree::NodeId;
@@ -221,6 +222,36 @@ impl Arbiter {
     }
 }
 
+impl Arbiter {
+    /// Returns the requests that wait, in the order of the queue.
+    pub fn requests(&self) -> &[Request]
+        ensures { result.now ≡ self.now.sequencer.queue }
+    {
+        self.sequencer.requests()
+    }
+
+    /// Returns whether a sequence holds a lock.
+    pub fn holds(&self, seq: SeqId) -> bool
+        ensures { result ≡ is_held seq self.now.sequencer.holders }
+    {
+        self.sequencer.holds(seq)
+    }
+
+    /// Returns the state of the driver.
+    pub fn state(&self) -> &Driver
+        ensures { result.now ≡ self.now.sequencer.driver }
+    {
+        self.sequencer.driver()
+    }
+
+    /// Returns the driver: who asked last, through which port and in which phase.
+    pub fn driver(&self) -> Option<DriverPort>
+        ensures { result ≡ self.now.driver }
+    {
+        self.driver
+    }
+}
+
 /// The sequencers of a testbench, by their nodes.
 pub type Arbiters = HashMap<NodeId, Arbiter>;
 
@@ -309,6 +340,13 @@ pub fn passed_at(arbiters: &Arbiters, sequences: &Sequences, known: usize, node:
         Some(arbiter) => arbiter.sequencer.passed(sequences, known),
         None => 0,
     }
+}
+
+/// Returns the sequencer at a node, if there is one.
+pub fn arbiter_at(arbiters: &Arbiters, node: NodeId) -> Option<&Arbiter>
+    ensures { option_copied result ≡ get nat_eq arbiters.now node }
+{
+    arbiters.get(&node)
 }
 
 /// Returns how many item requests and locks wait at a node; 0 if the node has no sequencer.

@@ -319,6 +319,14 @@ impl Objections {
         self.objection(phase).total(node)
     }
 
+    /// Returns the source of a known node in the objection of a phase: what is raised at the node itself.
+    pub fn source(&self, phase: Phase, node: NodeId) -> u64
+        requires { IsTrue (is_known node (nodes_in self.now phase)) }
+        ensures { result ≡ source_of node (nodes_in self.now phase) }
+    {
+        self.objection(phase).source(node)
+    }
+
     /// Returns whether something is raised at the top node or below it, or delayed at the top node by the drain time, in a phase.
     pub fn stands(&self, phase: Phase) -> bool
         requires { IsTrue (is_known 0 (nodes_in self.now phase)) }

@@ -1,10 +1,12 @@
 //! References to the services of a world.
 
-ghost use Rattle.std.specs.Prelude.{◌≡◌, ℕ, true};
+ghost use Rattle.std.specs.Prelude.{◌≡◌, ℕ, IfSome, option_copied, option_map, true};
+ghost use Rattle.bench_history.specs.Arbitration.{driver_requester, sequencer_at};
 ghost use Rattle.bench_history.specs.Configuration.{settings_of};
 ghost use Rattle.bench_history.specs.Dues.{due_events};
 ghost use Rattle.bench_history.specs.History.{nodes_of, overrides_of};
 ghost use Rattle.bench_history.specs.Objections.{objections_of};
+ghost use Rattle.bench_history.specs.Passing.{fifo_state_at};
 ghost use Rattle.bench_history.specs.Reports.{report_commands};
 ghost use Rattle.bench_history.specs.Sequences.{sequences_of, step_of};
 ghost use Rattle.bench_history.specs.Wires.{is_past_connect, wiring_of};
@@ -17,7 +19,7 @@ ghost use Rattle.world_state.specs.Phased.{nodes_in};
 ghost use Rattle.world_services.specs.Services.{IsFactory, IsSettings};
 ghost use Rattle.world_wiring.specs.WiringMatch.{IsConnecting};
 
-use bench_history::EventTarget;
+use bench_history::{EventTarget, Requester};
 use bench_world::World;
 use uvm_config::Settings;
 use uvm_factory::Factory;
@@ -25,9 +27,11 @@ use uvm_object::EventCall;
 use uvm_phase::{Agenda, Phase};
 use uvm_report::Reports;
 use uvm_sequences::Sequences;
-use uvm_tlm::Wiring;
-use uvm_tree::Tree;
+use uvm_tlm::{Fifo, Wiring};
+use uvm_tree::{NodeId, Tree};
+use world_sequencing::arbiters::{Arbiter, arbiter_at};
 use world_state::objections::Objections;
+use world_wiring::fifo_states::fifo_at;
 
 /// Returns the factory. Its types are the script's, and it resolves each of them by the accepted overrides (Clause 8). Requires a
 /// consistent world.
@@ -97,4 +101,21 @@ pub fn tree(world: &World) -> &Tree
     ensures { result.now.nodes ≡ nodes_of world.now.history }
 {
     &world.services().tree
+}
+
+/// Returns the FIFO at a node, if there is one: its items, and the puts, takes and peeks that wait (Clause 12). Requires a consistent world.
+pub fn fifo(world: &World, node: NodeId) -> Option<&Fifo<Requester>>
+    requires { world.now.sound ≡ true }
+    ensures { option_copied result ≡ fifo_state_at world.now.history node }
+{
+    fifo_at(&world.services().fifo_states, node)
+}
+
+/// Returns the sequencer at a node, if there is one: its queue, its holders and its driver (Clause 15). Requires a consistent world.
+pub fn sequencer(world: &World, node: NodeId) -> Option<&Arbiter>
+    requires { world.now.sound ≡ true }
+    ensures sequencer { option_map (λ a. a.now.sequencer) result ≡ sequencer_at world.now.history node }
+    ensures driver { IfSome result (λ a. a.now.driver ≡ driver_requester world.now.history node) }
+{
+    arbiter_at(&world.services().arbiters, node)
 }

@@ -8,6 +8,7 @@ ghost use Rattle.bench_history.specs.Objections.{is_kept, objections_of, stands}
 ghost use Rattle.bench_history.specs.Reports.{newest_fate, noted_end, reason_of, report_commands};
 ghost use Rattle.uvm_config.specs.Answers.{config_answer};
 ghost use Rattle.uvm_glob.specs.Paths.{path_text};
+ghost use Rattle.uvm_objection.specs.Nodes.{source_of};
 ghost use Rattle.uvm_objection.specs.Totals.{total};
 ghost use Rattle.uvm_phase.specs.Phases.{is_task};
 ghost use Rattle.uvm_report.specs.Commands.{is_exit_asked};
@@ -106,6 +107,18 @@ fn is_there(world: &World, node: NodeId) -> bool
     ensures { result ≡ nat_lt node (length (nodes_of world.now.history)) }
 {
     world.services().tree.path(node).is_some()
+}
+
+/// Returns the count of objections to the end of a phase that are raised at a node itself (10.5). Returns 0 for a phase that takes no time,
+/// or if there is no such node. Requires a consistent world.
+pub fn source_in(world: &World, phase: Phase, node: NodeId) -> u64
+    requires { world.now.sound ≡ true }
+    ensures { result ≡ (if is_task phase && nat_lt node (length (nodes_of world.now.history)) then source_of node (objections_of world.now.script phase world.now.history) else 0) }
+{
+    if !phase.is_task() || !is_there(world, node) {
+        return 0;
+    }
+    world.services().objections.source(phase, node)
 }
 
 /// Returns whether a phase has an objection: it takes time, and the root or a node below has a raised count or a delayed one (10.5).

@@ -1,6 +1,6 @@
 //! FIFOs and the requests that wait at them (IEEE 1800.2-2020, Clause 12).
 
-ghost use Rattle.std.specs.Prelude.{◌≡◌, nat_eq, OnOk, IfOk, map, option_map, option_and_then};
+ghost use Rattle.std.specs.Prelude.{◌≡◌, nat_eq, OnOk, IfOk, map, option_copied, option_map, option_and_then};
 ghost use Rattle.std.specs.HashMap.{get};
 ghost use Rattle.uvm_tlm.specs.Fifos.{waiting_count, with_put};
 ghost use Rattle.uvm_glob.specs.Lists.{first_given};
@@ -136,6 +136,13 @@ pub fn pass(fifo_states: &mut FifoStates, fifo: NodeId)
     if let Some(fifo_state) = fifo_states.get_mut(&fifo) {
         let _ = fifo_state.settle();
     }
+}
+
+/// Returns the FIFO at a node, if there is one.
+pub fn fifo_at(fifo_states: &FifoStates, node: NodeId) -> Option<&Fifo<Requester>>
+    ensures { option_copied result ≡ get nat_eq fifo_states.now node }
+{
+    fifo_states.get(&node)
 }
 
 /// Returns how many requests wait at a node, or `None` if the node is not a FIFO.

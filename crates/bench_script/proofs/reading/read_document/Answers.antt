@@ -2,8 +2,8 @@ use Rattle.std.proofs.Common.{◌≡◌, length, nat_lt, true, false, refl, Resu
 use Rattle.std.specs.Str.{is_utf8}
 use Rattle.std.proofs.lemmas.Bool.{le-ltb, false_from_ne_true}
 use Rattle.std.proofs.lemmas.Str.{is_utf8-from_IsUtf8, IsUtf8-from_is_utf8}
-use Rattle.script_tables.specs.declared.faults.ScriptFault.{ScriptFault}
-use Rattle.script_tables.specs.declared.faults.ScriptFault.TheVariants.{Memory}
+use Rattle.script_values.specs.declared.faults.ScriptFault.{ScriptFault}
+use Rattle.script_values.specs.declared.faults.ScriptFault.TheVariants.{Memory}
 use Rattle.bench_script.specs.Limits.{most_script_bytes}
 use Rattle.bench_script.proofs.reading.read_document.Goals as goal
 

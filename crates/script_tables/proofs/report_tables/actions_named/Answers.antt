@@ -1,18 +1,11 @@
-use Rattle.script_tables.proofs.Common.{ℕ, List, Bor, ◌∙◌, sym, refl, list_all-map, is_one_of, action_words}
+use Rattle.script_tables.proofs.Common.{◌∙◌, sym, refl}
+use Rattle.script_tables.proofs.ActionNames.{first-map}
 use Rattle.script_tables.proofs.report_tables.actions_named.Goals as goal
 
--- each word is an action
-pub returns-then-are_actions : goal.returns-then-are_actions
-returns-then-are_actions c =
-    let words = c.args.words.now in
-    let yes = list_all-map (is_one_of action_words) (λ (word : Bor (List ℕ)). word.now) words ∙ sym c.are_actions.ensures ∙ c.if-are_actions.true in
-    let display = c.is_listed.ensures in
-    let count = c.is_listed-then-are_actions.ensures in
-    let exit = c.is_listed-then-are_actions-2.ensures in
-    rw (yes, display, count, exit) refl
+-- each word names an action
+pub returns-in-None : goal.returns-in-None
+returns-in-None c = let none = first-map c.args.words.now ∙ sym c.first_other.ensures ∙ c.in-None.is in rw (none, c.action_set.ensures) refl
 
--- some word is none
-pub returns-else-are_actions : goal.returns-else-are_actions
-returns-else-are_actions c =
-    let no = list_all-map (is_one_of action_words) (λ (word : Bor (List ℕ)). word.now) c.args.words.now ∙ sym c.are_actions.ensures ∙ c.if-are_actions.false in
-    rw no refl
+-- some word names none
+pub returns-in-Some : goal.returns-in-Some
+returns-in-Some c = let some = first-map c.args.words.now ∙ sym c.first_other.ensures ∙ c.in-Some.is in rw some refl

@@ -1,6 +1,7 @@
-use Rattle.script_tables.proofs.Common.{action_row}
-use Rattle.script_tables.proofs.RowsRead.{row-read}
+use Rattle.script_tables.proofs.Common.{arith, numbered, action_row}
+use Rattle.script_values.specs.declared.places.TableArray.TheVariants as array
+use Rattle.script_tables.proofs.RowsRead.{placed-ok, row-read}
 use Rattle.script_tables.proofs.report_tables.read_actions.Goals as goal
 
 pub loop-element-preserved : goal.loop-element-preserved
-loop-element-preserved c = row-read (λ _. action_row) _ _ _ _ _ _ _ c.loop-element-test.true c.element-item.is c.loop-element.invariant c.in_ok-action_row.ensures c.in_ok-push.ensures.items
+loop-element-preserved c = row-read (numbered array.Action (λ _. action_row)) _ _ _ _ _ _ _ c.loop-element-test.true c.element-item.is c.loop-element.invariant (placed-ok array.Action _ _ _ _ _ (omega (arith, c.len.ensures, c.loop-element.rows.ok.0)) c.action_row-read.ensures c.in_ok-in_row.ensures) c.in_ok-push.ensures.items

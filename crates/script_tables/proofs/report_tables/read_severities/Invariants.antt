@@ -1,7 +1,8 @@
-use Rattle.script_tables.proofs.Common.{◌≡◌, drop, table_view, items_view, rows_from, severity_row, severities_in}
+use Rattle.script_tables.proofs.Common.{◌≡◌, drop, table_view, items_view, numbered, rows_from, severity_row, severities_in}
+use Rattle.script_values.specs.declared.places.TableArray.TheVariants as array
 use Rattle.script_tables.proofs.report_tables.read_severities.Given as goal
 
 -- the rows so far, and those of the elements that are left
 abbrev pub invariant-loop-element : goal.invariant-loop-element
 invariant-loop-element l =
-    severities_in (table_view l.root) ≡ rows_from (λ _. severity_row) l.rows.items (items_view (drop l.element-index l.element-items))
+    severities_in (table_view l.root) ≡ rows_from (numbered array.Severity (λ _. severity_row)) l.rows.items (items_view (drop l.element-index l.element-items))

@@ -1,0 +1,3 @@
+mod Common
+pub mod Keys
+pub mod Placed

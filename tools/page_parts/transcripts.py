@@ -2,6 +2,7 @@
 import os
 import re
 import subprocess
+import tempfile
 
 from page_parts import sources
 from page_parts.tables import table
@@ -15,13 +16,15 @@ FILE = re.compile(r'file ([^ :]+)(?::(\d+)-(\d+))?(?: from "([^"]*)" before "([^
 
 
 def program(name):
-    """Returns the path of a program, which `rt ci` has left in crates/; $PROGRAMS is another such folder."""
+    """Returns the path of a program, which `rt ci` has left in crates/; $PROGRAMS is another such folder. A name with a slash is that of a tool."""
+    if "/" in name:
+        return sources.ROOT / name
     return os.path.join(os.environ.get("PROGRAMS", sources.CRATES), name, "out", name)
 
 
-def ran(words, folder=GUIDE):
-    """Returns the output, the errors and the status of a command line."""
-    run = subprocess.run([program(words[0]), *words[1:]], cwd=folder, stdin=subprocess.DEVNULL, capture_output=True, text=True, timeout=60)
+def ran(words, folder=GUIDE, given=""):
+    """Returns the output, the errors and the status of a command line that reads a text."""
+    run = subprocess.run([program(words[0]), *words[1:]], cwd=folder, input=given, capture_output=True, text=True, timeout=60)
     return run.stdout, run.stderr, run.returncode
 
 
@@ -30,9 +33,12 @@ def fenced(text, kind=""):
 
 
 def of_run(key):
-    """Returns the command line of a run, and what it writes: all of it, the reports alone, or some lines of it."""
+    """Returns the command line of a run, and what it writes: all of it, the reports alone, or some lines of it. Each part of a pipe reads what the
+    one before it writes."""
     mode, count, start, status, folder, line = RUN.fullmatch(key).groups()
-    out, err, ended = ran(line.split(), sources.ROOT / folder if folder else GUIDE)
+    out = ""
+    for part in line.split(" | "):
+        out, err, ended = ran(part.split(), sources.ROOT / folder if folder else GUIDE, out)
     if ended != int(status or 0):
         raise SystemExit(f"{line}: status {ended}, and the page says {status or 0}: {err}")
     lines = (out + err).splitlines()
@@ -42,6 +48,16 @@ def of_run(key):
         first = next(at for at, it in enumerate(lines) if it.startswith(start))
         lines = lines[first:first + int(count)]
     return fenced("\n".join([f"$ {line}", *lines]))
+
+
+def of_picture():
+    """Returns the sequence diagram of a file of the guide: its run from the first call of the driver on."""
+    with tempfile.TemporaryDirectory(prefix="picture_") as folder:
+        log = os.path.join(folder, "log.json")
+        _, err, status = ran(["script_bench", "run", "--json", log, "two_items.toml"])
+        if status:
+            raise SystemExit(f"two_items.toml: status {status}: {err}")
+        return ran(["tools/diagram", "--from", "22", "--to", "60", log])[0]
 
 
 def of_help(key):

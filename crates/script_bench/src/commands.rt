@@ -1,6 +1,7 @@
 //! The command line.
 
 use clap::{Arg, ArgAction, ArgMatches, Command, value_parser};
+use script_seeds::Seeds;
 use std::alloc::{AllocError, Global};
 
 const ABOUT: &str = "Runs UVM-style testbenches that are described in TOML files";
@@ -24,6 +25,21 @@ Exit status:
 
 Example, in crates/script_bench:
   script_bench check data/mistakes/misspelled_type.toml";
+
+const ABOUT_LEGAL: &str =
+    "Judges a transcript, read from standard input: whether a run of a testbench file writes it";
+
+const AFTER_LEGAL: &str =
+    "The transcript is that of `run --trace`. The file runs with the random numbers that the transcript shows, and what it writes is compared.
+
+Exit status:
+  0  a run of the file writes the transcript
+  1  none does with these random numbers: the first line that differs is named, with what the run writes there
+  2  the file or the command line was refused
+  3  out of memory, output failed, or the file or the transcript was not read
+
+Example, in crates/script_bench:
+  script_bench run --trace data/bus.toml | script_bench legal data/bus.toml";
 
 const AFTER_SERVE: &str =
     "The objects of types without [answers] are in another program, the client. It reads the questions from standard output, and writes the
@@ -53,25 +69,29 @@ Tutorial: docs/GUIDE.md. All keys, calls and actions: docs/REFERENCE.md";
 
 /// The options of `run` and of `serve`.
 #[derive(Clone, Copy)]
-pub struct Options {
+pub struct Options<'a> {
     /// The choice to print every entry of the log.
     pub trace: bool,
     /// The choice to explain the run once it is over. `serve` has no such option.
     pub explain: bool,
     /// The seed of the random numbers.
     pub seed: u64,
+    /// The file for the log as JSON, if one is asked for. `serve` has no such option.
+    pub json: Option<&'a str>,
 }
 
-/// Creates the command line: `run [--trace] [--explain] [--seed N] [--test NAME] FILE..`, `serve` with the same options but `--explain` and
-/// one FILE, and `check [--serve] FILE..`. Errors: out of memory.
+/// Creates the command line: `run [--trace] [--explain] [--json FILE] [--seed N | --seeds A-B] [--test NAME] FILE..`, `serve` with the options `--trace`,
+/// `--seed` and `--test` and one FILE, `check [--serve] FILE..`, and `legal [--test NAME] FILE`. Errors: out of memory.
 pub fn command<'a>(alloc: Global) -> Result<Command<'a>, AllocError> {
     let run = run_command(alloc)?;
     let serve = serve_command(alloc)?;
     let check = check_command(alloc)?;
+    let legal = legal_command(alloc)?;
     top_command(alloc)
         .subcommand(run)?
         .subcommand(serve)?
-        .subcommand(check)
+        .subcommand(check)?
+        .subcommand(legal)
 }
 
 // Creates `script_bench` without its subcommands.
@@ -84,7 +104,7 @@ fn top_command<'a>(alloc: Global) -> Command<'a> {
         .subcommand_required(true)
 }
 
-// Creates `run [--trace] [--explain] [--seed N] [--test NAME] FILE..`. Errors: out of memory.
+// Creates `run [--trace] [--explain] [--json FILE] [--seed N | --seeds A-B] [--test NAME] FILE..`. Errors: out of memory.
 fn run_command<'a>(alloc: Global) -> Result<Command<'a>, AllocError> {
     run_options(alloc)?.arg(test_arg(alloc))?.arg(files_arg(
         alloc,
@@ -103,6 +123,15 @@ fn serve_command<'a>(alloc: Global) -> Result<Command<'a>, AllocError> {
         .arg(file_arg(alloc))
 }
 
+// Creates `legal [--test NAME] FILE`. Errors: out of memory.
+fn legal_command<'a>(alloc: Global) -> Result<Command<'a>, AllocError> {
+    Command::new(alloc, "legal")
+        .about(ABOUT_LEGAL)
+        .after_help(AFTER_LEGAL)
+        .arg(test_arg(alloc))?
+        .arg(file_arg(alloc))
+}
+
 // Creates `check [--serve] FILE..`. Errors: out of memory.
 fn check_command<'a>(alloc: Global) -> Result<Command<'a>, AllocError> {
     let serve = Arg::new(alloc, "serve")
@@ -116,14 +145,16 @@ fn check_command<'a>(alloc: Global) -> Result<Command<'a>, AllocError> {
         .arg(files_arg(alloc, "A testbench file, in TOML"))
 }
 
-// Creates `run [--trace] [--explain] [--seed N]`. Errors: out of memory.
+// Creates `run [--trace] [--explain] [--json FILE] [--seed N | --seeds A-B]`. Errors: out of memory.
 fn run_options<'a>(alloc: Global) -> Result<Command<'a>, AllocError> {
     Command::new(alloc, "run")
         .about(ABOUT_RUN)
         .after_help(AFTER_HELP)
         .arg(trace_arg(alloc))?
         .arg(explain_arg(alloc))?
-        .arg(seed_arg(alloc))
+        .arg(json_arg(alloc))?
+        .arg(seed_arg(alloc))?
+        .arg(seeds_arg(alloc)?)
 }
 
 fn explain_arg<'a>(alloc: Global) -> Arg<'a> {
@@ -133,6 +164,12 @@ fn explain_arg<'a>(alloc: Global) -> Arg<'a> {
             "Says on standard error why the run ended as it did, what waits and what had no effect",
         )
         .action(ArgAction::SetTrue)
+}
+
+fn json_arg<'a>(alloc: Global) -> Arg<'a> {
+    Arg::new(alloc, "json").long("json").value_name("JSON").help(
+        "Also writes the log to the file JSON, an object on a line for each entry",
+    )
 }
 
 fn trace_arg<'a>(alloc: Global) -> Arg<'a> {
@@ -148,6 +185,19 @@ fn seed_arg<'a>(alloc: Global) -> Arg<'a> {
         .value_name("N")
         .help("The seed of the random numbers, 0 to 2^64-1 (1 if omitted)")
         .value_parser(value_parser!(u64))
+}
+
+fn seeds_arg<'a>(alloc: Global) -> Result<Arg<'a>, AllocError> {
+    Arg::new(alloc, "seeds")
+        .long("seeds")
+        .value_name("A-B")
+        .help(
+            "Runs with each seed from A to B, and prints a line for each: clean, or its status with the first ERROR or FATAL",
+        )
+        .conflicts_with("trace")?
+        .conflicts_with("explain")?
+        .conflicts_with("json")?
+        .conflicts_with("seed")
 }
 
 fn test_arg<'a>(alloc: Global) -> Arg<'a> {
@@ -171,11 +221,21 @@ fn file_arg<'a>(alloc: Global) -> Arg<'a> {
         .required(true)
 }
 
-/// Returns the options of `run` or `serve`. The seed is 1 if it is omitted. `explains` says whether the command has the option `--explain`.
-pub fn options_of(run: &ArgMatches<'_>, explains: bool) -> Options {
+/// Returns the options of `run` or `serve`. The seed is 1 if it is omitted. `is_run` says whether the command is `run`.
+pub fn options_of<'a>(given: &'a ArgMatches<'_>, is_run: bool) -> Options<'a> {
     Options {
-        trace: run.get_flag("trace"),
-        explain: explains && run.get_flag("explain"),
-        seed: run.get_one("seed").unwrap_or(1),
+        trace: given.get_flag("trace"),
+        explain: is_run && given.get_flag("explain"),
+        seed: given.get_one("seed").unwrap_or(1),
+        json: if is_run { given.get_str("json") } else { None },
     }
+}
+
+/// Returns the seeds of `A-B`, or of `A` alone; `None` if the text is no range of seeds.
+pub fn seeds_in(text: &str) -> Option<Seeds> {
+    let (first, last) = text.split_once('-').unwrap_or((text, text));
+    let first: u64 = first.parse().ok()?;
+    let last: u64 = last.parse().ok()?;
+    let count = last.checked_sub(first)?.checked_add(1)?;
+    Some(Seeds { first, count })
 }

@@ -1,10 +1,12 @@
 //! The program `script_bench`: `run FILE..` runs documents, each of which holds a script and the answers of its objects. `serve FILE` runs a
 //! document whose objects another program holds, except those with answers in the document. `check FILE..` says what is wrong with documents.
+//! `legal FILE` judges a transcript.
 #![tactic(auto)]
 
 mod checks;
 mod commands;
 mod files;
+mod judgements;
 mod program;
 
 use script_input::Breakage;

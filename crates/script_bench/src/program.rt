@@ -1,19 +1,22 @@
 //! The commands of the program, on any runtime and with any writers.
 
 use crate::checks::check_files;
-use crate::commands::{Options, command, options_of};
+use crate::commands::{Options, command, options_of, seeds_in};
 use crate::files::{BROKEN, REFUSED, bytes_of, report_unread};
+use crate::judgements::judge_file;
 use bench_script::ScriptFault;
 use clap::error::ErrorKind;
 use clap::{ArgMatches, Error};
 use script_explain::explain;
 use script_input::Breakage;
 use script_jobs::{EndedRun, Verdict, run_to_core};
+use script_json::write_log;
+use script_seeds::{Seeds, run_seeds};
 use serve_jobs::{Pipe, serve_bench, serve_nothing};
 use std::alloc::Global;
-use std::io::{BufRead, Write};
+use std::io::{BufRead, BufWriter, Write};
 use std::rt::{Env, Files};
-use std::{env, io};
+use std::{env, fs, io};
 use uvm_glob::{Name, PathFault};
 
 /// Executes the command line and returns the exit status: the greatest of the files' statuses (0 clean, 1 faulty, 2 rejected, 3 broken). For
@@ -98,13 +101,40 @@ fn obey<R: Files + AllocGlobal, I: BufRead + Drop, O: Write + Drop, E: Write>(
         let _ = writeln!(err, "script_bench: --test: not a name ({fault})");
         return REFUSED;
     };
-    let options = options_of(given, word == "run");
     let Some(files) = given.get_strs("file") else {
         return REFUSED;
     };
+    if let ("legal", [file]) = (word, files) {
+        return judge_file(rt, file, test.as_ref(), (input, &mut out), err);
+    }
+    let options = options_of(given, word == "run");
+    if options.json.is_some() && files.len() > 1 {
+        let _ = writeln!(err, "script_bench: --json: only for one file");
+        return REFUSED;
+    }
     match (word, files) {
         ("serve", [file]) => serve_file(rt, file, &options, test.as_ref(), (input, out), err),
-        _ => run_files(rt, files, &options, test.as_ref(), &mut out, err),
+        _ => match seeds_of(given) {
+            Ok(seeds) => run_files(rt, files, (&options, seeds), test.as_ref(), &mut out, err),
+            Err(text) => {
+                let _ = writeln!(
+                    err,
+                    "script_bench: --seeds: {text:?} is no range A-B of seeds"
+                );
+                REFUSED
+            }
+        },
+    }
+}
+
+// Returns the seeds of `run --seeds`, or `None` if the option is omitted. Errors: the text, which is no range of seeds.
+fn seeds_of<'a>(run: &'a ArgMatches<'_>) -> Result<Option<Seeds>, &'a str> {
+    match run.get_str("seeds") {
+        Some(text) => match seeds_in(text) {
+            Some(seeds) => Ok(Some(seeds)),
+            None => Err(text),
+        },
+        None => Ok(None),
     }
 }
 
@@ -125,7 +155,7 @@ fn check_matched<R: Files + AllocGlobal, O: Write, E: Write>(
 fn serve_file<R: Files + AllocGlobal, I: BufRead + Drop, O: Write + Drop, E: Write>(
     rt: &R,
     file: &str,
-    options: &Options,
+    options: &Options<'_>,
     test: Option<&Name>,
     (input, out): (I, O),
     err: &mut E,
@@ -158,7 +188,7 @@ fn test_of(run: &ArgMatches<'_>) -> Result<Option<Name>, PathFault> {
 fn run_files<R: Files + AllocGlobal, O: Write, E: Write>(
     rt: &R,
     files: &[&str],
-    options: &Options,
+    options: (&Options<'_>, Option<Seeds>),
     test: Option<&Name>,
     out: &mut O,
     err: &mut E,
@@ -173,7 +203,7 @@ fn run_files<R: Files + AllocGlobal, O: Write, E: Write>(
 fn run_several<R: Files + AllocGlobal, O: Write, E: Write>(
     rt: &R,
     files: &[&str],
-    options: &Options,
+    options: (&Options<'_>, Option<Seeds>),
     test: Option<&Name>,
     out: &mut O,
     err: &mut E,
@@ -196,7 +226,7 @@ fn run_several<R: Files + AllocGlobal, O: Write, E: Write>(
 fn run_named<R: Files + AllocGlobal, O: Write, E: Write>(
     rt: &R,
     file: &str,
-    options: &Options,
+    options: (&Options<'_>, Option<Seeds>),
     test: Option<&Name>,
     out: &mut O,
     err: &mut E,
@@ -210,7 +240,7 @@ fn run_named<R: Files + AllocGlobal, O: Write, E: Write>(
 fn run_file<R: Files + AllocGlobal, O: Write, E: Write>(
     rt: &R,
     file: &str,
-    options: &Options,
+    (options, seeds): (&Options<'_>, Option<Seeds>),
     test: Option<&Name>,
     out: &mut O,
     err: &mut E,
@@ -219,19 +249,87 @@ fn run_file<R: Files + AllocGlobal, O: Write, E: Write>(
         Ok(bytes) => bytes,
         Err(why) => return report_unread(file, why, err),
     };
+    match seeds {
+        Some(seeds) => run_for(rt.alloc(), (file, bytes.as_slice()), seeds, test, out, err),
+        None => run_once(rt, (file, bytes.as_slice()), options, test, out, err),
+    }
+}
+
+// Runs the document of a file for some seeds. Returns the greatest exit status.
+fn run_for<O: Write, E: Write>(
+    alloc: Global,
+    (file, bytes): (&str, &[u8]),
+    seeds: Seeds,
+    test: Option<&Name>,
+    out: &mut O,
+    err: &mut E,
+) -> u8 {
+    let ended = run_seeds(alloc, bytes, seeds, test, out);
+    if out.flush().is_err() {
+        return broken(Breakage::Output, err);
+    }
+    match ended {
+        Ok(status) => status,
+        Err(verdict) => {
+            let _ = verdict.write_line(file, err);
+            verdict.status()
+        }
+    }
+}
+
+// Runs the document of a file once. Returns the exit status.
+fn run_once<R: Files + AllocGlobal, O: Write, E: Write>(
+    rt: &R,
+    (file, bytes): (&str, &[u8]),
+    options: &Options<'_>,
+    test: Option<&Name>,
+    out: &mut O,
+    err: &mut E,
+) -> u8 {
     let (seed, trace) = (options.seed, options.trace);
-    let (verdict, run) = run_to_core(rt.alloc(), bytes.as_slice(), seed, test, trace, out);
+    let (verdict, run) = run_to_core(rt.alloc(), bytes, seed, test, trace, out);
     if out.flush().is_err() {
         return broken(Breakage::Output, err);
     }
     let _ = verdict.write_line(file, err);
-    if options.explain
-        && is_explained(&verdict)
-        && let Some(run) = &run
-    {
+    let Some(run) = &run else {
+        return verdict.status();
+    };
+    if options.explain && is_explained(&verdict) {
         explain_run(rt.alloc(), file, run, err);
     }
-    verdict.status()
+    match options.json {
+        Some(path) => verdict.status().max(write_json(rt, path, run, err)),
+        None => verdict.status(),
+    }
+}
+
+// Writes the log of a run to a file. Returns 0, or 3 if the file could not be written.
+fn write_json<R: Files + AllocGlobal, E: Write>(
+    rt: &R,
+    path: &str,
+    run: &EndedRun,
+    err: &mut E,
+) -> u8 {
+    match written(rt, path, run) {
+        Ok(()) => 0,
+        Err(error) => {
+            let why = if error.kind() == io::ErrorKind::OutOfMemory {
+                "memory"
+            } else {
+                "cannot write the file"
+            };
+            let _ = writeln!(err, "script_bench: {path}: {why}");
+            BROKEN
+        }
+    }
+}
+
+// Writes the log of a run to a file, in place of what the file held. Errors: those of the file; out of memory.
+fn written<R: Files + AllocGlobal>(rt: &R, path: &str, run: &EndedRun) -> io::Result<()> {
+    let mut out = BufWriter::new(rt.alloc(), fs::create(rt, path)?)?;
+    write_log(rt.alloc(), &run.core, &mut out)?;
+    out.flush()
 }
 
 // Returns whether a run is explained: not if memory ran out or the output failed.

@@ -8,7 +8,7 @@ use std::collections::HashMap;
 use std::str::from_utf8;
 use uvm_factory::Override;
 use uvm_glob::{Glob, Name};
-use uvm_object::{Act, Entry, Reason};
+use uvm_object::{Act, Entry, Outcome, Reason};
 use uvm_tree::NodeId;
 
 // The fields that objects at each node look up.
@@ -16,7 +16,7 @@ type Fields = HashMap<NodeId, Vec<Name>>;
 
 // Appends the rows of the script and the keys of answers that had no effect. Of a run whose build phase has not ended it appends nothing.
 // Fields, overrides, drains and keys are reported only if the run finished or stalled: otherwise they may have an effect later.
-pub(crate) fn push_effects(facts: &Facts<'_>, page: &mut Page<'_>) {
+pub(crate) fn push_effects(facts: &Facts<'_>, page: &mut Page) {
     if !facts.records.is_built {
         return;
     }
@@ -34,7 +34,7 @@ pub(crate) fn push_effects(facts: &Facts<'_>, page: &mut Page<'_>) {
 }
 
 // Appends a line for each row of reports whose scope matches no path.
-fn push_scopes(facts: &Facts<'_>, section: &mut Section, page: &mut Page<'_>) {
+fn push_scopes(facts: &Facts<'_>, section: &mut Section, page: &mut Page) {
     let script = facts.world.script();
     for (index, row) in script.verbosities().iter().enumerate() {
         push_scope(facts, ("verbosity ", index), &row.scope, section, page);
@@ -48,7 +48,7 @@ fn push_scopes(facts: &Facts<'_>, section: &mut Section, page: &mut Page<'_>) {
 }
 
 // Appends a row of the script: the key of its array, and its number from 1.
-fn push_row((array, index): (&str, usize), page: &mut Page<'_>) {
+fn push_row((array, index): (&str, usize), page: &mut Page) {
     page.say(array);
     page.count(index.saturating_add(1));
     page.say(": ");
@@ -81,7 +81,7 @@ fn push_scope(
     row: (&str, usize),
     scope: &Glob,
     section: &mut Section,
-    page: &mut Page<'_>,
+    page: &mut Page,
 ) -> bool {
     if has_match(facts, scope) {
         return true;
@@ -98,7 +98,7 @@ fn push_scope(
 }
 
 // Appends a sentence about the node whose name is that of a scope, or is nearest to it.
-fn push_near(facts: &Facts<'_>, scope: &Glob, page: &mut Page<'_>) {
+fn push_near(facts: &Facts<'_>, scope: &Glob, page: &mut Page) {
     let last = last_name(scope);
     if last.is_empty() {
         return;
@@ -132,15 +132,22 @@ fn last_name(scope: &Glob) -> &str {
 }
 
 // Appends a line for each override that led to no object that was made.
-fn push_overrides(facts: &Facts<'_>, section: &mut Section, page: &mut Page<'_>) {
+fn push_overrides(facts: &Facts<'_>, section: &mut Section, page: &mut Page) {
     let script = facts.world.script();
+    if script.overrides().is_empty() {
+        return;
+    }
+    let Ok(types) = facts.followed() else {
+        page.fail();
+        return;
+    };
     for (index, row) in script.overrides().iter().enumerate() {
         let (from, to) = match row {
             Override::Instance { original, new, .. } | Override::Whole { original, new, .. } => {
                 (*original, *new)
             }
         };
-        if facts.types.has_led(from, to) || !section.begin(page) {
+        if types.has_led(from, to) || !section.begin(page) {
             continue;
         }
         push_row(("override ", index), page);
@@ -157,7 +164,7 @@ fn push_overrides(facts: &Facts<'_>, section: &mut Section, page: &mut Page<'_>)
 }
 
 // Appends a line for each drain time of a component or a phase that is not there.
-fn push_drains(facts: &Facts<'_>, section: &mut Section, page: &mut Page<'_>) {
+fn push_drains(facts: &Facts<'_>, section: &mut Section, page: &mut Page) {
     let script = facts.world.script();
     for (index, drain) in script.drains().iter().enumerate() {
         let has_node = facts.tree.find(&drain.path).is_some();
@@ -179,7 +186,7 @@ fn push_drains(facts: &Facts<'_>, section: &mut Section, page: &mut Page<'_>) {
 }
 
 // Appends a line for each setting whose scope matches no path, and with `is_last` also for each whose field nothing in its scope looks up.
-fn push_settings(facts: &Facts<'_>, is_last: bool, section: &mut Section, page: &mut Page<'_>) {
+fn push_settings(facts: &Facts<'_>, is_last: bool, section: &mut Section, page: &mut Page) {
     let settings = facts.world.script().settings();
     if settings.is_empty() {
         return;
@@ -204,10 +211,14 @@ fn push_settings(facts: &Facts<'_>, is_last: bool, section: &mut Section, page: 
 fn fields_of(facts: &Facts<'_>) -> Result<Fields, AllocError> {
     let mut fields: Fields = HashMap::new(facts.alloc);
     for entry in facts.core.log().iter() {
-        if let Entry::Did { who, act, .. } = entry {
-            if let Act::Get { field } = act.act().get() {
-                add_field(facts, &mut fields, who.node(), field)?;
-            }
+        let Entry::Did { who, outcome, act } = entry else {
+            continue;
+        };
+        if !matches!(outcome.get(), Outcome::Value(_)) {
+            continue;
+        }
+        if let Act::Get { field } = act.act().get() {
+            add_field(facts, &mut fields, who.node(), field)?;
         }
     }
     Ok(fields)
@@ -246,7 +257,7 @@ fn is_looked_up(facts: &Facts<'_>, fields: &Fields, setting: &Setting) -> bool {
 }
 
 // Appends that nothing in the scope of a setting looks up its field, and the fields that are looked up there.
-fn push_field(facts: &Facts<'_>, fields: &Fields, setting: &Setting, page: &mut Page<'_>) {
+fn push_field(facts: &Facts<'_>, fields: &Fields, setting: &Setting, page: &mut Page) {
     page.say("nothing at \"");
     page.bytes(setting.scope.as_bytes());
     page.say("\" looks up ");

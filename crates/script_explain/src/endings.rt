@@ -10,7 +10,7 @@ use uvm_tlm::{PortKind, WireFault};
 use uvm_tree::NodeId;
 
 // Appends what ended the run.
-pub(crate) fn push_ending(facts: &Facts<'_>, page: &mut Page<'_>) {
+pub(crate) fn push_ending(facts: &Facts<'_>, page: &mut Page) {
     let reason = reason_of(facts.core.log());
     page.say(match reason {
         Some(_) => "The run ended at time ",
@@ -35,12 +35,12 @@ pub(crate) fn push_ending(facts: &Facts<'_>, page: &mut Page<'_>) {
 }
 
 // Appends the reason of the end.
-fn push_reason(facts: &Facts<'_>, reason: Reason, page: &mut Page<'_>) {
+fn push_reason(facts: &Facts<'_>, reason: Reason, page: &mut Page) {
     page.say(": ");
     page.say(reason_word(facts, reason));
     page.say(".\n");
     match reason {
-        Reason::Finished if !facts.records.has_raised => {
+        Reason::Finished if !facts.has_raised() => {
             page.say("No objection was raised, so run ended at the time at which it began.\n");
         }
         Reason::Finished | Reason::Stall => {}
@@ -67,7 +67,7 @@ fn is_limit_reached(facts: &Facts<'_>) -> bool {
 }
 
 // Appends what is due next, after the time limit.
-fn push_due(facts: &Facts<'_>, page: &mut Page<'_>) {
+fn push_due(facts: &Facts<'_>, page: &mut Page) {
     let Some(due) = facts.world.agenda().first() else {
         return;
     };
@@ -91,7 +91,7 @@ fn push_due(facts: &Facts<'_>, page: &mut Page<'_>) {
 }
 
 // Appends why the last action was rejected, or which report ended the run.
-fn push_last(facts: &Facts<'_>, page: &mut Page<'_>) {
+fn push_last(facts: &Facts<'_>, page: &mut Page) {
     let log = facts.core.log();
     match log.get(log.len().saturating_sub(2)) {
         Some(Entry::Note { fatal, node }) => push_note(facts, *fatal, *node, page),
@@ -104,11 +104,11 @@ fn push_last(facts: &Facts<'_>, page: &mut Page<'_>) {
 }
 
 // Appends the report of the last action.
-fn push_report(facts: &Facts<'_>, page: &mut Page<'_>) {
-    let Some(last) = facts.records.last else {
+fn push_report(facts: &Facts<'_>, page: &mut Page) {
+    let Some(place) = facts.last_place() else {
         return;
     };
-    let Some(Entry::Did { who, act, .. }) = facts.core.log().get(last.place) else {
+    let Some(Entry::Did { who, act, .. }) = facts.core.log().get(place) else {
         return;
     };
     let stored = act.act();
@@ -136,7 +136,7 @@ fn push_report(facts: &Facts<'_>, page: &mut Page<'_>) {
 }
 
 // Appends the quit limit, if it is reached.
-fn push_limit(facts: &Facts<'_>, page: &mut Page<'_>) {
+fn push_limit(facts: &Facts<'_>, page: &mut Page) {
     if is_limit_reached(facts) {
         page.say("The quit limit is ");
         page.number(u64::from(facts.world.script().quit_limit()));
@@ -145,7 +145,7 @@ fn push_limit(facts: &Facts<'_>, page: &mut Page<'_>) {
 }
 
 // Appends what the kernel found.
-fn push_note(facts: &Facts<'_>, fatal: Fatal, node: NodeId, page: &mut Page<'_>) {
+fn push_note(facts: &Facts<'_>, fatal: Fatal, node: NodeId, page: &mut Page) {
     match fatal {
         Fatal::TooFewConnections | Fatal::TooManyConnections => push_port(facts, fatal, node, page),
         Fatal::TooManyActs => push_too_many(facts, page),
@@ -161,7 +161,7 @@ fn push_note(facts: &Facts<'_>, fatal: Fatal, node: NodeId, page: &mut Page<'_>)
 }
 
 // Appends where a port with too few or too many connections leads.
-fn push_port(facts: &Facts<'_>, fatal: Fatal, node: NodeId, page: &mut Page<'_>) {
+fn push_port(facts: &Facts<'_>, fatal: Fatal, node: NodeId, page: &mut Page) {
     page.say("After connect, ");
     facts.path(node, page);
     page.say(", ");
@@ -193,7 +193,7 @@ fn push_port(facts: &Facts<'_>, fatal: Fatal, node: NodeId, page: &mut Page<'_>)
 }
 
 // Appends the accepted actions that connect a port.
-fn push_connections(facts: &Facts<'_>, node: NodeId, page: &mut Page<'_>) {
+fn push_connections(facts: &Facts<'_>, node: NodeId, page: &mut Page) {
     let mut list = List::new();
     for entry in facts.core.log().iter() {
         let Entry::Did { who, act, outcome } = entry else {
@@ -214,7 +214,7 @@ fn push_connections(facts: &Facts<'_>, node: NodeId, page: &mut Page<'_>) {
 }
 
 // Appends which answer has too many actions.
-fn push_too_many(facts: &Facts<'_>, page: &mut Page<'_>) {
+fn push_too_many(facts: &Facts<'_>, page: &mut Page) {
     let log = facts.core.log();
     let Some(
         Entry::Heard {

@@ -1,10 +1,8 @@
 //! The keys of answers that no call matched.
 
-use script_facts::{Facts, List, Page, Section};
+use script_facts::{Facts, List, Makes, Page, Section};
 use script_objects::TypeRules;
 use std::alloc::{AllocError, Global};
-use std::collections::HashMap;
-use uvm_glob::Name;
 use uvm_lines::call_text;
 use uvm_object::{Call, Entry};
 
@@ -14,10 +12,16 @@ const MOST_CALLS: usize = 8;
 // The greatest number of calls without a key that are reported of a type.
 const SHOWN_CALLS: usize = 3;
 
+// The number of calls that are kept so that equal ones are not matched again.
+const LAST_CALLS: usize = 4;
+
 // The rules of a type, and the calls that its objects received.
 #[derive(Drop)]
 struct Matches<'a> {
     rules: &'a TypeRules,
+    // The last calls that differ, and the number of such calls so far.
+    last: Vec<Call>,
+    count: usize,
     // For each rule, whether a call has matched its key.
     matched: Vec<bool>,
     // The number of rules whose key no call has matched.
@@ -32,6 +36,8 @@ impl<'a> Matches<'a> {
         let count = rules.rules().len();
         Ok(Matches {
             rules,
+            last: Vec::new(alloc),
+            count: 0,
             matched: vec![in alloc; false; count]?,
             left: count,
             others: Vec::new(alloc),
@@ -40,6 +46,25 @@ impl<'a> Matches<'a> {
 
     // Adds a call. Errors: out of memory.
     fn add(&mut self, alloc: Global, call: &Call) -> Result<(), AllocError> {
+        if self.last.contains(call) {
+            return Ok(());
+        }
+        self.keep(call)?;
+        self.add_line(alloc, call)
+    }
+
+    // Keeps a call in place of the oldest of the last ones. Errors: out of memory.
+    fn keep(&mut self, call: &Call) -> Result<(), AllocError> {
+        match self.last.get_mut(self.count % LAST_CALLS) {
+            Some(oldest) => *oldest = *call,
+            None => self.last.push(*call)?,
+        }
+        self.count = self.count.wrapping_add(1);
+        Ok(())
+    }
+
+    // Adds a call that is none of the last ones. Errors: out of memory.
+    fn add_line(&mut self, alloc: Global, call: &Call) -> Result<(), AllocError> {
         let line = call_text(alloc, call)?;
         if self.is_matched(line.as_slice()) || matches!(call, Call::Phase(_)) {
             return Ok(());
@@ -69,7 +94,7 @@ impl<'a> Matches<'a> {
     }
 
     // Appends the keys that no call has matched, in quotation marks.
-    fn push_idle(&self, page: &mut Page<'_>) {
+    fn push_idle(&self, page: &mut Page) {
         let mut list = List::new();
         for (rule, is_matched) in self.rules.rules().iter().zip(self.matched.iter()) {
             if !*is_matched && list.begin(page) {
@@ -82,7 +107,7 @@ impl<'a> Matches<'a> {
     }
 
     // Appends some calls that match no key, first those whose first word is that of a key that no call has matched.
-    fn push_others(&self, page: &mut Page<'_>) {
+    fn push_others(&self, page: &mut Page) {
         let mut count = 0usize;
         let mut list = List::new();
         for is_near in [true, false] {
@@ -123,12 +148,20 @@ pub(crate) fn push_keys(
     facts: &Facts<'_>,
     has_finished: bool,
     section: &mut Section,
-    page: &mut Page<'_>,
+    page: &mut Page,
 ) {
-    match matches_of(facts) {
+    if facts.answers.types().is_empty() {
+        return;
+    }
+    let Ok(makes) = facts.makes() else {
+        page.fail();
+        return;
+    };
+    match matches_of(facts, makes) {
         Ok(types) => {
             for matches in &types {
-                push_type(facts, has_finished, matches, section, page);
+                let is_made = makes.has_made(matches.rules.type_name());
+                push_type(is_made, has_finished, matches, section, page);
             }
         }
         Err(_) => page.fail(),
@@ -136,24 +169,32 @@ pub(crate) fn push_keys(
 }
 
 // Returns the keys of each type that its objects' calls have matched. Errors: out of memory.
-fn matches_of<'a>(facts: &Facts<'a>) -> Result<Vec<Matches<'a>>, AllocError> {
-    let mut places: HashMap<Name, usize> = HashMap::new(facts.alloc);
+fn matches_of<'a>(facts: &Facts<'a>, makes: &Makes) -> Result<Vec<Matches<'a>>, AllocError> {
     let mut types = Vec::new(facts.alloc);
     for rules in facts.answers.types() {
-        match places.insert(*rules.type_name(), types.len()) {
-            Ok(_) => {}
-            Err(_) => return Err(AllocError),
-        }
         types.push(Matches::new(facts.alloc, rules)?)?;
     }
-    match_calls(facts, &places, &mut types)?;
+    let places = places_of(facts, makes)?;
+    match_calls(facts, makes, &places, &mut types)?;
     Ok(types)
+}
+
+// Returns the place of the answers of each type of which an object was made, `usize::MAX` without answers. Errors: out of memory.
+fn places_of(facts: &Facts<'_>, makes: &Makes) -> Result<Vec<usize>, AllocError> {
+    let mut places = Vec::new(facts.alloc);
+    for made in &makes.made {
+        let types = facts.answers.types();
+        let place = types.iter().position(|rules| rules.type_name() == made);
+        places.push(place.unwrap_or(usize::MAX))?;
+    }
+    Ok(places)
 }
 
 // Matches the calls of the log with the keys of the types, until a call has matched each key. Errors: out of memory.
 fn match_calls(
     facts: &Facts<'_>,
-    places: &HashMap<Name, usize>,
+    makes: &Makes,
+    places: &[usize],
     types: &mut [Matches<'_>],
 ) -> Result<(), AllocError> {
     let mut open = types.iter().filter(|matches| matches.left > 0).count();
@@ -164,10 +205,10 @@ fn match_calls(
         let Entry::Heard { who, call, .. } = entry else {
             continue;
         };
-        let Some(name) = facts.records.of(who).type_name else {
+        let Some(made) = makes.place_of(who) else {
             continue;
         };
-        let place = places.get(&name).copied();
+        let place = places.get(made).copied();
         if let Some(matches) = place.and_then(|place| types.get_mut(place)) {
             if matches.left > 0 {
                 matches.add(facts.alloc, &call.get())?;
@@ -181,14 +222,13 @@ fn match_calls(
 // Appends a line for a type, if no call matched some of its keys. Of a run that has not finished such a call may still come, so there is a line
 // only if a call matched no key.
 fn push_type(
-    facts: &Facts<'_>,
+    is_made: bool,
     has_finished: bool,
     matches: &Matches<'_>,
     section: &mut Section,
-    page: &mut Page<'_>,
+    page: &mut Page,
 ) {
     let name = matches.rules.type_name();
-    let is_made = facts.records.has_made(name);
     let is_told = if is_made {
         matches.left > 0 && (has_finished || !matches.others.is_empty())
     } else {

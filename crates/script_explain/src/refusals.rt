@@ -10,8 +10,8 @@ use uvm_tlm::PortKind;
 use uvm_tree::NodeId;
 
 // Appends the last action, which was rejected, and why.
-pub(crate) fn push_refusal(facts: &Facts<'_>, page: &mut Page<'_>) {
-    let Some(last) = facts.records.last else {
+pub(crate) fn push_refusal(facts: &Facts<'_>, page: &mut Page) {
+    let Some(last) = facts.last_action() else {
         return;
     };
     let Some(Entry::Did { who, outcome, act }) = facts.core.log().get(last.place) else {
@@ -37,7 +37,7 @@ pub(crate) fn push_refusal(facts: &Facts<'_>, page: &mut Page<'_>) {
 }
 
 // Appends which action of which answer it was.
-fn push_answer(facts: &Facts<'_>, place: usize, number: usize, page: &mut Page<'_>) {
+fn push_answer(facts: &Facts<'_>, place: usize, number: usize, page: &mut Page) {
     let Some(Entry::Heard { call, acts, .. }) = facts.core.log().get(place) else {
         return;
     };
@@ -51,7 +51,7 @@ fn push_answer(facts: &Facts<'_>, place: usize, number: usize, page: &mut Page<'
 }
 
 // Appends a line with what is wrong with an action, if more is known than the words of its report.
-fn push_why(facts: &Facts<'_>, who: &Who, act: &Act, fatal: Fatal, page: &mut Page<'_>) {
+fn push_why(facts: &Facts<'_>, who: &Who, act: &Act, fatal: Fatal, page: &mut Page) {
     if !has_why(fatal) {
         return;
     }
@@ -128,7 +128,7 @@ fn port_of(act: &Act) -> Option<(&Name, PortKind)> {
 }
 
 // Appends why a port cannot be used.
-fn push_no_port(facts: &Facts<'_>, who: &Who, act: &Act, page: &mut Page<'_>) {
+fn push_no_port(facts: &Facts<'_>, who: &Who, act: &Act, page: &mut Page) {
     let Some((port, kind)) = port_of(act) else {
         return;
     };
@@ -149,7 +149,7 @@ fn push_no_port(facts: &Facts<'_>, who: &Who, act: &Act, page: &mut Page<'_>) {
 }
 
 // Appends the ports of a node, and the one whose name is nearest.
-fn push_ports(facts: &Facts<'_>, node: NodeId, port: &Name, page: &mut Page<'_>) {
+fn push_ports(facts: &Facts<'_>, node: NodeId, port: &Name, page: &mut Page) {
     page.say("It has no port ");
     page.name(port);
     page.say("; it has ");
@@ -177,7 +177,7 @@ fn text_of(name: &Name) -> &str {
 }
 
 // Appends the first part of a path that is missing below a node, otherwise what the path leads to.
-fn push_path(facts: &Facts<'_>, below: NodeId, path: &Path, page: &mut Page<'_>) {
+fn push_path(facts: &Facts<'_>, below: NodeId, path: &Path, page: &mut Page) {
     let mut node = below;
     let text = from_utf8(path.as_bytes()).unwrap_or("");
     for part in text.split('.') {
@@ -204,7 +204,7 @@ fn push_path(facts: &Facts<'_>, below: NodeId, path: &Path, page: &mut Page<'_>)
 }
 
 // Appends that a node has no child with a name, and the children that it has.
-fn push_no_child(facts: &Facts<'_>, node: NodeId, name: &str, page: &mut Page<'_>) {
+fn push_no_child(facts: &Facts<'_>, node: NodeId, name: &str, page: &mut Page) {
     facts.path(node, page);
     page.say(" has no ");
     page.say(name);
@@ -221,7 +221,7 @@ fn push_no_child(facts: &Facts<'_>, node: NodeId, name: &str, page: &mut Page<'_
 }
 
 // Appends which end of a connection is missing.
-fn push_unknown(facts: &Facts<'_>, node: NodeId, from: &Path, to: &Path, page: &mut Page<'_>) {
+fn push_unknown(facts: &Facts<'_>, node: NodeId, from: &Path, to: &Path, page: &mut Page) {
     let is_end = match facts.tree.find_below(node, from) {
         Some(node) => facts.wiring.end(node).is_some(),
         None => false,
@@ -230,7 +230,7 @@ fn push_unknown(facts: &Facts<'_>, node: NodeId, from: &Path, to: &Path, page: &
 }
 
 // Appends what is wrong with the types of an action.
-fn push_type(facts: &Facts<'_>, act: &Act, page: &mut Page<'_>) {
+fn push_type(facts: &Facts<'_>, act: &Act, page: &mut Page) {
     let (first, second, wanted) = match act {
         Act::Create { type_name, .. } => (type_name, None, Some(Kind::Component)),
         Act::Start { type_name, .. } => (type_name, None, Some(Kind::Sequence)),
@@ -259,7 +259,7 @@ fn push_type(facts: &Facts<'_>, act: &Act, page: &mut Page<'_>) {
 }
 
 // Appends that a type is not declared, and the one whose name is nearest.
-fn push_no_type(facts: &Facts<'_>, name: &Name, page: &mut Page<'_>) {
+fn push_no_type(facts: &Facts<'_>, name: &Name, page: &mut Page) {
     page.say("The script has no type ");
     page.name(name);
     page.say(".");
@@ -271,7 +271,7 @@ fn push_no_type(facts: &Facts<'_>, name: &Name, page: &mut Page<'_>) {
 }
 
 // Appends what the child is whose name is taken.
-fn push_taken(facts: &Facts<'_>, node: NodeId, name: &Name, page: &mut Page<'_>) {
+fn push_taken(facts: &Facts<'_>, node: NodeId, name: &Name, page: &mut Page) {
     page.say("It has a child ");
     page.name(name);
     page.say(" already");
@@ -283,7 +283,7 @@ fn push_taken(facts: &Facts<'_>, node: NodeId, name: &Name, page: &mut Page<'_>)
 }
 
 // Appends the state of a driver whose ask or whose end of an item was rejected.
-fn push_driver(facts: &Facts<'_>, who: &Who, act: &Act, page: &mut Page<'_>) {
+fn push_driver(facts: &Facts<'_>, who: &Who, act: &Act, page: &mut Page) {
     let Some((port, _)) = port_of(act) else {
         return;
     };
@@ -297,7 +297,7 @@ fn push_driver(facts: &Facts<'_>, who: &Who, act: &Act, page: &mut Page<'_>) {
     let Some(arbiter) = facts.world.sequencer(home) else {
         return;
     };
-    let drive = facts.records.drive(who, port);
+    let drive = facts.drive(who, port);
     match arbiter.state() {
         Driver::InHand(id) => {
             page.say("It has held the item of ");
@@ -324,8 +324,8 @@ fn push_driver(facts: &Facts<'_>, who: &Who, act: &Act, page: &mut Page<'_>) {
 }
 
 // Appends how many objections are raised where more were dropped.
-fn push_below_zero(facts: &Facts<'_>, who: &Who, page: &mut Page<'_>) {
-    let phase = match facts.records.last {
+fn push_below_zero(facts: &Facts<'_>, who: &Who, page: &mut Page) {
+    let phase = match facts.last_action() {
         Some(last) => last.phase,
         None => None,
     };

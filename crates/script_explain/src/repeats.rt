@@ -13,7 +13,7 @@ const LAST_ENTRIES: usize = 20_000;
 const LEAST_SHARE: usize = 10;
 
 // Appends the most frequent call among the last entries, if it fills a tenth of them.
-pub(crate) fn push_repeated(facts: &Facts<'_>, page: &mut Page<'_>) {
+pub(crate) fn push_repeated(facts: &Facts<'_>, page: &mut Page) {
     let log = facts.core.log();
     let first = log.len().saturating_sub(LAST_ENTRIES);
     let entries = log.len().min(LAST_ENTRIES);
@@ -74,12 +74,7 @@ fn is_still(facts: &Facts<'_>, first: usize) -> bool {
 }
 
 // Appends the most frequent call.
-fn push_most(
-    facts: &Facts<'_>,
-    place: usize,
-    (count, entries): (usize, usize),
-    page: &mut Page<'_>,
-) {
+fn push_most(facts: &Facts<'_>, place: usize, (count, entries): (usize, usize), page: &mut Page) {
     let Some(Entry::Heard { who, call, .. }) = facts.core.log().get(place) else {
         return;
     };

@@ -22,12 +22,13 @@ pub fn explain(
         return out.push_str("Memory ran out, so that the state of the run is not known.\n");
     };
     let facts = Facts::of_run(alloc, core, answers, world)?;
-    let mut page = Page::new(out);
+    let mut page = Page::new(alloc);
     push_ending(&facts, &mut page);
     push_holders(&facts, &mut page);
     push_living(&facts, &mut page);
     push_waits(&facts, &mut page);
     push_effects(&facts, &mut page);
+    out.push_str(page.text())?;
     if page.has_failed() {
         return Err(AllocError);
     }

@@ -8,12 +8,13 @@ use uvm_tree::NodeId;
 use world_sequencing::arbiters::Arbiter;
 
 // Appends a line for each sequence that has not ended its last step.
-pub(crate) fn push_living(facts: &Facts<'_>, page: &mut Page<'_>) {
+pub(crate) fn push_living(facts: &Facts<'_>, page: &mut Page) {
     let mut section = Section::new("Sequences that have not ended by themselves");
-    for who in &facts.records.sequences {
-        if facts.records.of(who).finished || !section.begin(page) {
+    for started in &facts.records.sequences {
+        if started.finished || !section.begin(page) {
             continue;
         }
+        let who = &started.who;
         facts.who(who, page);
         match who {
             Who::Sequence { home, id } if facts.sequences.is_live(*id) => {
@@ -31,7 +32,7 @@ pub(crate) fn push_living(facts: &Facts<'_>, page: &mut Page<'_>) {
 }
 
 // Appends why a sequence is active.
-fn push_active(facts: &Facts<'_>, who: &Who, home: NodeId, id: SeqId, page: &mut Page<'_>) {
+fn push_active(facts: &Facts<'_>, who: &Who, home: NodeId, id: SeqId, page: &mut Page) {
     if let Some(arbiter) = facts.world.sequencer(home) {
         if push_seat(facts, arbiter, home, id, page) {
             return;
@@ -52,7 +53,7 @@ fn push_seat(
     arbiter: &Arbiter,
     home: NodeId,
     id: SeqId,
-    page: &mut Page<'_>,
+    page: &mut Page,
 ) -> bool {
     for request in arbiter.requests() {
         if request.seq == id {
@@ -81,7 +82,7 @@ fn push_seat(
 }
 
 // Appends why a request waits.
-fn push_cause(facts: &Facts<'_>, arbiter: &Arbiter, home: NodeId, id: SeqId, page: &mut Page<'_>) {
+fn push_cause(facts: &Facts<'_>, arbiter: &Arbiter, home: NodeId, id: SeqId, page: &mut Page) {
     if let Some(holder) = holder_of(facts, arbiter, id) {
         page.say(", which ");
         facts.who(&holder, page);
@@ -113,10 +114,10 @@ fn push_cause(facts: &Facts<'_>, arbiter: &Arbiter, home: NodeId, id: SeqId, pag
 
 // Returns a sequence that holds the sequencer and is not an ancestor of `id`, if there is one.
 fn holder_of(facts: &Facts<'_>, arbiter: &Arbiter, id: SeqId) -> Option<Who> {
-    for who in &facts.records.sequences {
-        if let Who::Sequence { id: other, .. } = who {
-            if arbiter.holds(*other) && !facts.sequences.is_under(id, *other) {
-                return Some(*who);
+    for started in &facts.records.sequences {
+        if let Who::Sequence { id: other, .. } = started.who {
+            if arbiter.holds(other) && !facts.sequences.is_under(id, other) {
+                return Some(started.who);
             }
         }
     }
@@ -124,7 +125,7 @@ fn holder_of(facts: &Facts<'_>, arbiter: &Arbiter, id: SeqId) -> Option<Who> {
 }
 
 // Appends the driver that asked last.
-fn push_driver(facts: &Facts<'_>, arbiter: &Arbiter, page: &mut Page<'_>) {
+fn push_driver(facts: &Facts<'_>, arbiter: &Arbiter, page: &mut Page) {
     match arbiter.driver() {
         Some(driver) => facts.who(&driver.who, page),
         None => page.say("its driver"),
@@ -132,12 +133,12 @@ fn push_driver(facts: &Facts<'_>, arbiter: &Arbiter, page: &mut Page<'_>) {
 }
 
 // Appends who asked last, how often, and its last call.
-fn push_asks(facts: &Facts<'_>, arbiter: &Arbiter, page: &mut Page<'_>) {
+fn push_asks(facts: &Facts<'_>, arbiter: &Arbiter, page: &mut Page) {
     let Some(driver) = arbiter.driver() else {
         page.say("none has asked");
         return;
     };
-    let drive = facts.records.drive(&driver.who, &driver.name);
+    let drive = facts.drive(&driver.who, &driver.name);
     facts.who(&driver.who, page);
     page.say(" asked ");
     page.count(drive.asks);
@@ -149,14 +150,14 @@ fn push_asks(facts: &Facts<'_>, arbiter: &Arbiter, page: &mut Page<'_>) {
 }
 
 // Appends the active sequences that a sequence has started, and returns whether there are any.
-fn push_children(facts: &Facts<'_>, id: SeqId, page: &mut Page<'_>) -> bool {
+fn push_children(facts: &Facts<'_>, id: SeqId, page: &mut Page) -> bool {
     let mut list = List::new();
     let mut has_child = false;
-    for who in &facts.records.sequences {
-        let Who::Sequence { id: child, .. } = who else {
+    for started in &facts.records.sequences {
+        let Who::Sequence { id: child, .. } = started.who else {
             continue;
         };
-        if facts.sequences.parent(*child) != Some(id) || !facts.sequences.is_live(*child) {
+        if facts.sequences.parent(child) != Some(id) || !facts.sequences.is_live(child) {
             continue;
         }
         if !has_child {
@@ -164,7 +165,7 @@ fn push_children(facts: &Facts<'_>, id: SeqId, page: &mut Page<'_>) -> bool {
             has_child = true;
         }
         if list.begin(page) {
-            facts.label(who, page);
+            facts.label(&started.who, page);
         }
     }
     list.end(page, "");

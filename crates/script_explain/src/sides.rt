@@ -25,7 +25,7 @@ impl Side {
 }
 
 // Appends a sentence for each component at a side of a FIFO, and if there is none a sentence that says so.
-pub(crate) fn push_users(facts: &Facts<'_>, fifo: NodeId, side: Side, page: &mut Page<'_>) {
+pub(crate) fn push_users(facts: &Facts<'_>, fifo: NodeId, side: Side, page: &mut Page) {
     let mut has_user = false;
     for node in &facts.nodes {
         let is_there = match facts.wiring.port_kind(*node) {
@@ -46,7 +46,7 @@ pub(crate) fn push_users(facts: &Facts<'_>, fifo: NodeId, side: Side, page: &mut
 }
 
 // Appends a sentence for the component of a port at a side of a FIFO.
-fn push_user(facts: &Facts<'_>, node: NodeId, side: Side, page: &mut Page<'_>) {
+fn push_user(facts: &Facts<'_>, node: NodeId, side: Side, page: &mut Page) {
     let Some((parent, port)) = facts.tree.under(node) else {
         return;
     };

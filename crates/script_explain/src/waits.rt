@@ -27,7 +27,7 @@ const TASKS: [Phase; 13] = [
 ];
 
 // Appends who keeps the phases that have not ended.
-pub(crate) fn push_holders(facts: &Facts<'_>, page: &mut Page<'_>) {
+pub(crate) fn push_holders(facts: &Facts<'_>, page: &mut Page) {
     if !has_stopped(facts) {
         return;
     }
@@ -55,7 +55,7 @@ fn push_sources(
     phase: Phase,
     node: NodeId,
     section: &mut Section,
-    page: &mut Page<'_>,
+    page: &mut Page,
 ) {
     let count = facts.world.raised(phase, node);
     if count == 0 || !section.begin(page) {
@@ -66,7 +66,7 @@ fn push_sources(
     page.number(count);
     page.say(" raised in ");
     page.say(phase.name());
-    if let Some(raise) = facts.records.raise(node, phase) {
+    if let Some(raise) = facts.raise(node, phase) {
         page.say(", the last");
         if raise.who != Who::Node(node) {
             page.say(" by ");
@@ -79,7 +79,7 @@ fn push_sources(
 }
 
 // Appends what waits at FIFOs and sequencers.
-pub(crate) fn push_waits(facts: &Facts<'_>, page: &mut Page<'_>) {
+pub(crate) fn push_waits(facts: &Facts<'_>, page: &mut Page) {
     if !has_stopped(facts) {
         return;
     }
@@ -100,7 +100,7 @@ fn push_puts(
     node: NodeId,
     fifo: &Fifo<Requester>,
     section: &mut Section,
-    page: &mut Page<'_>,
+    page: &mut Page,
 ) {
     let (first, second) = fifo.puts();
     for put in first.iter().chain(second.iter()) {
@@ -128,7 +128,7 @@ fn push_takes(
     node: NodeId,
     fifo: &Fifo<Requester>,
     section: &mut Section,
-    page: &mut Page<'_>,
+    page: &mut Page,
 ) {
     let (first, second) = fifo.takes();
     for take in first.iter().chain(second.iter()) {
@@ -151,7 +151,7 @@ fn push_takes(
 }
 
 // Appends a line if a driver waits at a sequencer or holds an item.
-fn push_driver(facts: &Facts<'_>, node: NodeId, section: &mut Section, page: &mut Page<'_>) {
+fn push_driver(facts: &Facts<'_>, node: NodeId, section: &mut Section, page: &mut Page) {
     let Some(arbiter) = facts.world.sequencer(node) else {
         return;
     };
@@ -188,7 +188,7 @@ fn push_driver(facts: &Facts<'_>, node: NodeId, section: &mut Section, page: &mu
                 page,
             );
             page.say(" since time ");
-            page.number(facts.records.drive(&driver.who, &driver.name).item);
+            page.number(facts.drive(&driver.who, &driver.name).item);
             page.say("; ");
             facts.last_call(&driver.who, page);
             page.say(".\n");

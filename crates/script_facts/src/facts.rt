@@ -1,11 +1,13 @@
 //! What is known of a run that has ended.
 
+use crate::calls::LastCalls;
+use crate::makes::Makes;
 use crate::records::Records;
-use crate::types::Types;
 use crate::worlds::State;
 use bench_core::Core;
 use script_objects::Answers;
 use std::alloc::{AllocError, Global};
+use std::cell::OnceCell;
 use uvm_sequences::Sequences;
 use uvm_tlm::Wiring;
 use uvm_tree::{NodeId, Tree};
@@ -29,10 +31,12 @@ pub struct Facts<'a> {
     pub sequences: &'a Sequences,
     /// All nodes but the root, in path order.
     pub nodes: Vec<NodeId>,
-    /// The types of the objects.
-    pub types: Types<'a>,
-    /// What the objects have done.
+    /// The sequences and phases.
     pub records: Records,
+    // The types of the objects, once a line has told one.
+    pub(crate) makes: OnceCell<Makes>,
+    // The last call of each object, once a line has told one.
+    pub(crate) calls: OnceCell<LastCalls>,
 }
 
 impl<'a> Facts<'a> {
@@ -43,10 +47,9 @@ impl<'a> Facts<'a> {
         answers: &'a Answers,
         world: State<'a>,
     ) -> Result<Facts<'a>, AllocError> {
-        let mut types = Types::of_run(alloc, &world)?;
-        let records = Records::of_log(alloc, core.log(), &mut types)?;
         let (tree, wiring, sequences) = (world.tree(), world.wiring(), world.sequences());
-        let nodes = tree.path_order(alloc)?;
+        let records = Records::of_log(alloc, core.log(), sequences)?;
+        let nodes = nodes_of(alloc, tree)?;
         Ok(Facts {
             alloc,
             core,
@@ -56,8 +59,23 @@ impl<'a> Facts<'a> {
             wiring,
             sequences,
             nodes,
-            types,
             records,
+            makes: OnceCell::new(),
+            calls: OnceCell::new(),
         })
     }
+}
+
+// Returns all nodes of a tree but the root, in path order. Errors: out of memory.
+fn nodes_of(alloc: Global, tree: &Tree) -> Result<Vec<NodeId>, AllocError> {
+    let mut nodes = Vec::new(alloc);
+    let mut last = None;
+    for _place in 0..Tree::MAX_NODES {
+        last = tree.next_down(last);
+        match last {
+            Some(node) => nodes.push(node)?,
+            None => break,
+        }
+    }
+    Ok(nodes)
 }

@@ -1,5 +1,6 @@
 //! The text of an explanation.
 
+use std::alloc::Global;
 use std::str::from_utf8;
 use uvm_glob::Name;
 
@@ -8,18 +9,23 @@ const MOST: usize = 8;
 
 /// The text of an explanation. Once memory runs out, nothing more is appended.
 #[derive(Drop)]
-pub struct Page<'a> {
-    out: &'a mut String,
+pub struct Page {
+    text: String,
     has_failed: bool,
 }
 
-impl<'a> Page<'a> {
-    /// Begins to append to a text.
-    pub fn new(out: &'a mut String) -> Page<'a> {
+impl Page {
+    /// Begins without a text.
+    pub fn new(alloc: Global) -> Page {
         Page {
-            out,
+            text: String::new(alloc),
             has_failed: false,
         }
+    }
+
+    /// Returns the text.
+    pub fn text(&self) -> &str {
+        self.text.as_str()
     }
 
     /// Returns whether memory has run out.
@@ -34,7 +40,7 @@ impl<'a> Page<'a> {
 
     /// Appends a text.
     pub fn say(&mut self, text: &str) {
-        if !self.has_failed && self.out.push_str(text).is_err() {
+        if !self.has_failed && self.text.push_str(text).is_err() {
             self.has_failed = true;
         }
     }
@@ -53,7 +59,7 @@ impl<'a> Page<'a> {
 
     /// Appends a number.
     pub fn number(&mut self, number: u64) {
-        if !self.has_failed && write!(self.out, "{number}").is_err() {
+        if !self.has_failed && write!(self.text, "{number}").is_err() {
             self.has_failed = true;
         }
     }
@@ -65,7 +71,7 @@ impl<'a> Page<'a> {
 
     /// Appends a signed number.
     pub fn signed(&mut self, number: i64) {
-        if !self.has_failed && write!(self.out, "{number}").is_err() {
+        if !self.has_failed && write!(self.text, "{number}").is_err() {
             self.has_failed = true;
         }
     }
@@ -90,7 +96,7 @@ impl Section {
     }
 
     /// Begins a line, and returns whether it is to be written.
-    pub fn begin(&mut self, page: &mut Page<'_>) -> bool {
+    pub fn begin(&mut self, page: &mut Page) -> bool {
         if self.count == 0 {
             page.say(self.heading);
             page.say(":\n");
@@ -104,7 +110,7 @@ impl Section {
     }
 
     /// Ends the section with the number of lines that were only counted.
-    pub fn end(&self, page: &mut Page<'_>) {
+    pub fn end(&self, page: &mut Page) {
         if self.count > MOST {
             page.say("  and ");
             page.count(self.count.saturating_sub(MOST));
@@ -126,7 +132,7 @@ impl List {
     }
 
     /// Begins a word, and returns whether it is to be written.
-    pub fn begin(&mut self, page: &mut Page<'_>) -> bool {
+    pub fn begin(&mut self, page: &mut Page) -> bool {
         self.count = self.count.saturating_add(1);
         if self.count > MOST {
             return false;
@@ -136,7 +142,7 @@ impl List {
     }
 
     /// Ends the list: with the number of words that were only counted, or with a text for no words.
-    pub fn end(&self, page: &mut Page<'_>, none: &str) {
+    pub fn end(&self, page: &mut Page, none: &str) {
         if self.count == 0 {
             page.say(none);
         } else if self.count > MOST {

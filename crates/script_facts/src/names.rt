@@ -2,6 +2,7 @@
 
 use crate::facts::Facts;
 use crate::lines::{List, Page};
+use uvm_glob::Name;
 use uvm_lines::{act_text, call_text};
 use uvm_object::{Act, Call, Entry, Who};
 use uvm_tlm::{End, Item, PortKind};
@@ -9,7 +10,7 @@ use uvm_tree::NodeId;
 
 impl Facts<'_> {
     /// Appends the path of a component, or the name of a sequence, without its type.
-    pub fn label(&self, who: &Who, page: &mut Page<'_>) {
+    pub fn label(&self, who: &Who, page: &mut Page) {
         match self.core.who_text(self.alloc, who) {
             Ok(text) => page.bytes(text.as_slice()),
             Err(_) => page.fail(),
@@ -17,22 +18,21 @@ impl Facts<'_> {
     }
 
     /// Appends the path of a component, or the name of a sequence, and its type.
-    pub fn who(&self, who: &Who, page: &mut Page<'_>) {
+    pub fn who(&self, who: &Who, page: &mut Page) {
         self.label(who, page);
-        if let Some(type_name) = self.records.of(who).type_name {
-            page.say(" (");
-            page.name(&type_name);
-            page.say(")");
+        match self.makes() {
+            Ok(makes) => push_type(makes.type_of(who), page),
+            Err(_) => page.fail(),
         }
     }
 
     /// Appends the path of a node.
-    pub fn path(&self, node: NodeId, page: &mut Page<'_>) {
+    pub fn path(&self, node: NodeId, page: &mut Page) {
         self.label(&Who::Node(node), page);
     }
 
     /// Appends a call in backquotes.
-    pub fn call(&self, call: &Call, page: &mut Page<'_>) {
+    pub fn call(&self, call: &Call, page: &mut Page) {
         page.say("`");
         match call_text(self.alloc, call) {
             Ok(text) => page.bytes(text.as_slice()),
@@ -42,7 +42,7 @@ impl Facts<'_> {
     }
 
     /// Appends an action in backquotes.
-    pub fn act(&self, act: &Act, page: &mut Page<'_>) {
+    pub fn act(&self, act: &Act, page: &mut Page) {
         page.say("`");
         match act_text(self.alloc, act) {
             Ok(text) => page.bytes(text.as_slice()),
@@ -52,18 +52,25 @@ impl Facts<'_> {
     }
 
     /// Appends what an object did last: `its last call was CALL, at time TIME, answered by ACTIONS`.
-    pub fn last_call(&self, who: &Who, page: &mut Page<'_>) {
-        let Some(heard) = self.records.of(who).heard else {
-            page.say("it has received no call");
-            return;
+    pub fn last_call(&self, who: &Who, page: &mut Page) {
+        let place = match self.heard(who) {
+            Ok(Some(place)) => place,
+            Ok(None) => {
+                page.say("it has received no call");
+                return;
+            }
+            Err(_) => {
+                page.fail();
+                return;
+            }
         };
-        let Some(Entry::Heard { call, acts, .. }) = self.core.log().get(heard.place) else {
+        let Some(Entry::Heard { call, acts, .. }) = self.core.log().get(place) else {
             return;
         };
         page.say("its last call was ");
         self.call(&call.get(), page);
         page.say(", at time ");
-        page.number(heard.time);
+        page.number(self.time_at(place));
         page.say(", answered by ");
         let mut list = List::new();
         for act in acts.iter() {
@@ -75,7 +82,7 @@ impl Facts<'_> {
     }
 
     /// Appends the names of the children of a node.
-    pub fn children(&self, node: NodeId, page: &mut Page<'_>) {
+    pub fn children(&self, node: NodeId, page: &mut Page) {
         let mut list = List::new();
         for child in self.tree.children(node) {
             if let Some((_, name)) = self.tree.under(child) {
@@ -88,7 +95,7 @@ impl Facts<'_> {
     }
 
     /// Appends what a node is.
-    pub fn kind(&self, node: NodeId, page: &mut Page<'_>) {
+    pub fn kind(&self, node: NodeId, page: &mut Page) {
         let (text, kind) = match self.wiring.end(node) {
             None => ("a component", None),
             Some(End::Port(kind)) => ("a port of kind ", Some(kind)),
@@ -109,6 +116,15 @@ impl Facts<'_> {
     }
 }
 
+// Appends a type in parentheses, if there is one.
+fn push_type(type_name: Option<&Name>, page: &mut Page) {
+    if let Some(type_name) = type_name {
+        page.say(" (");
+        page.name(type_name);
+        page.say(")");
+    }
+}
+
 /// Returns the word for a kind of port, as actions spell it.
 pub fn kind_word(kind: PortKind) -> &'static str {
     match kind {
@@ -120,7 +136,7 @@ pub fn kind_word(kind: PortKind) -> &'static str {
 }
 
 /// Appends an item, as in the transcript.
-pub fn push_item(item: &Item, page: &mut Page<'_>) {
+pub fn push_item(item: &Item, page: &mut Page) {
     let [first, second, third, fourth] = item.0;
     page.say("[");
     page.signed(first);

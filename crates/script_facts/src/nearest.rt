@@ -28,7 +28,7 @@ impl<'a> Nearest<'a> {
     }
 
     /// Adds a name.
-    pub fn add(&mut self, name: &Name, page: &mut Page<'_>) {
+    pub fn add(&mut self, name: &Name, page: &mut Page) {
         let most = self.word.len().max(3) / 3;
         let Ok(text) = from_utf8(name.as_bytes()) else {
             return;
@@ -54,7 +54,7 @@ impl<'a> Nearest<'a> {
     }
 
     /// Appends ` The nearest is NAME.`, if a name is near.
-    pub fn write(&self, page: &mut Page<'_>) {
+    pub fn write(&self, page: &mut Page) {
         let name = match (self.best, self.short) {
             (Some((_, name)), _) | (None, Some(name)) => name,
             (None, None) => return,

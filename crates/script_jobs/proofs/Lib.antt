@@ -2,3 +2,4 @@ mod Common
 mod Determined
 mod Firsts
 mod Ran
+pub mod ReadRuns

@@ -1,3 +1,4 @@
+pub mod Benches
 pub mod Laws
 pub mod Objects
 pub mod Runs

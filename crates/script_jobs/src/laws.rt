@@ -1,6 +1,6 @@
 //! Laws of all runs of documents (`specs/Laws.antt`). These functions have no run-time effect: call one where a proof needs its `ensures`.
 
-ghost use Rattle.script_jobs.specs.Laws.{RunsAreDetermined};
+ghost use Rattle.script_jobs.specs.Laws.{BenchRunsAreRuns, RunsAreDetermined};
 
 use crate::objects::BenchObject;
 use bench_run::laws as runs;
@@ -17,3 +17,8 @@ pub fn runs_are_determined()
     bus::objects_are_functions();
     runs::ends_are_determined::<BenchObject<'_>>();
 }
+
+/// States a law: a run of a bench that was read is a run of its document, as `run_bench` makes it.
+pub fn bench_runs_are_runs()
+    ensures { BenchRunsAreRuns }
+{}

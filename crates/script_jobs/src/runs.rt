@@ -9,7 +9,8 @@ ghost use Rattle.bench_script.specs.Documents.{IsReadable, tree_of_bytes};
 ghost use Rattle.script_input.specs.Scripts.{words_of_seed};
 ghost use Rattle.script_jobs.specs.Runs.{GivesNamed, HasEnded, HasNoRun, IsBenchRun, IsReported, IsScriptRun, IsTreeRun, IsVerdictOn, RanOutEarly, lost_test, own_test, refused_by, script_to_run, undeclared};
 
-use crate::answers::{ANSWERS, answers_in};
+use crate::answers::ANSWERS;
+use crate::benches::Bench;
 use crate::objects::BenchObject;
 use crate::verdicts::{Refusal, Verdict};
 use bench_run::{Core, RunFault, RunResult, Sink};
@@ -83,7 +84,7 @@ pub fn run_to_core<S: Sink>(
 }
 
 // Returns the verdict on a document that is not a script: rejected, or out of memory.
-fn refused(fault: ScriptFault) -> Verdict
+pub(crate) fn refused(fault: ScriptFault) -> Verdict
     ensures { result ≡ refused_by fault }
 {
     match fault {
@@ -107,14 +108,11 @@ fn run_tree<S: Sink>(
     ensures ended { IfSome result.1 (HasEnded (Ok (table_view root.now)) (option_copied test.entry) trace (S.contents out.old) (S.contents out.new) result.0) }
     ensures kept { IfNone result.1 (HasNoRun result.0) }
 {
-    let script = match script_to_run(alloc, root, test) {
-        Ok(script) => script,
-        Err(fault) => return (reported(alloc, root, test, fault), None),
-    };
-    let answers = match answers_in(alloc, root, &script) {
-        Ok(answers) => answers,
+    let bench = match Bench::of_tree(alloc, root, test) {
+        Ok(bench) => bench,
         Err(verdict) => return (verdict, None),
     };
+    let (script, answers) = bench.into_parts();
     let mut words = Pcg64::seed_from_u64(seed);
     let (ended, core) = run_objects(alloc, script, &answers, &mut words, trace, out);
     (verdict_on(&ended), ended_run(core, answers))
@@ -187,7 +185,7 @@ fn undeclared(types: &TypeTable, name: Option<&Name>) -> Option<Name>
 }
 
 // Returns the verdict on a run. Requires that its script has a test.
-fn verdict_on(ended: &Result<RunResult, RunFault>) -> Verdict
+pub(crate) fn verdict_on(ended: &Result<RunResult, RunFault>) -> Verdict
     requires { ended.now ≢ Err RunFault.NoTest }
     ensures { IsVerdictOn ended.now result }
 {
@@ -214,7 +212,7 @@ pub fn script_to_run(
 }
 
 // Runs a script with the objects of a document, and returns the core too.
-fn run_objects<R: Rng, S: Sink>(
+pub(crate) fn run_objects<R: Rng, S: Sink>(
     alloc: Global,
     script: Script,
     answers: &Answers,

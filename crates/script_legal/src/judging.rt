@@ -1,0 +1,93 @@
+//! The judgement on a transcript.
+
+ghost use Rattle.std.specs.Prelude.{◌≡◌, ◌≢◌, IsTrue, Ok, option_copied};
+ghost use Rattle.script_legal.specs.Judgements.{IsLegalText, IsRunText, IsWhole};
+
+use crate::words::{KnownWords, shown_words};
+use script_input::Breakage;
+use script_jobs::{Bench, Verdict, laws};
+use script_seeds::Kept;
+use std::alloc::Global;
+use uvm_glob::Name;
+
+/// The judgement on a transcript.
+#[derive(Drop)]
+pub enum Judgement {
+    /// A run of the document writes the whole text.
+    Legal,
+    /// The first line that the run does not write: its number, from 1, and the line that the run writes there, empty if it has ended.
+    Other(u64, Vec<u8>),
+}
+
+/// Judges whether a text is the transcript of a run of the document with a trace, over the random numbers that the text shows. If `test` is
+/// given, it replaces the script's own test. Errors: the verdict of `run_bench` if the document is rejected; out of memory.
+pub fn judge(
+    alloc: Global,
+    bytes: &[u8],
+    test: Option<&Name>,
+    text: &[u8],
+) -> Result<Judgement, Verdict>
+    ensures { result ≡ Ok Judgement.Legal → IsLegalText bytes.now (option_copied test.entry) text.now }
+{
+    laws::bench_runs_are_runs();
+    let bench = match Bench::read(alloc, bytes, test) {
+        Ok(bench) => bench,
+        Err(verdict) => return Err(verdict),
+    };
+    let Ok(words) = shown_words(alloc, text) else {
+        return Err(Verdict::Broken(Breakage::Memory));
+    };
+    judged(alloc, &bench, words.as_slice(), text)
+}
+
+// Judges a text by the run of a bench over some random numbers. Errors: out of memory.
+fn judged(alloc: Global, bench: &Bench, words: &[u64], text: &[u8]) -> Result<Judgement, Verdict>
+    ensures { result ≡ Ok Judgement.Legal → IsRunText bench.now text.now }
+{
+    let mut known = KnownWords::new(words);
+    let mut kept = Kept::new(alloc);
+    let verdict = bench.run_over(alloc, &mut known, true, &mut kept);
+    let is_whole = is_whole(&verdict);
+    if !is_whole {
+        return Err(Verdict::Broken(Breakage::Memory));
+    }
+    if kept.text.as_slice() == text {
+        return Ok(Judgement::Legal);
+    }
+    other(alloc, text, kept.text.as_slice())
+}
+
+// Returns whether a run went on until it ended or its log was full. Otherwise memory ran out.
+fn is_whole(verdict: &Verdict) -> bool
+    ensures { IsTrue result → IsWhole verdict.now }
+{
+    match verdict {
+        Verdict::Clean | Verdict::Faulty => true,
+        Verdict::Broken(Breakage::LogFull) => true,
+        _ => false,
+    }
+}
+
+// Returns the judgement on a text that differs from what the run writes. Errors: out of memory.
+fn other(alloc: Global, text: &[u8], written: &[u8]) -> Result<Judgement, Verdict>
+    ensures { result ≢ Ok Judgement.Legal }
+{
+    let (number, line) = first_other(text, written);
+    match Vec::from_slice(alloc, line) {
+        Ok(line) => Ok(Judgement::Other(number, line)),
+        Err(_) => Err(Verdict::Broken(Breakage::Memory)),
+    }
+}
+
+// Returns the number of the first line in which two texts differ, from 1, and that line of the second.
+fn first_other<'a>(text: &[u8], written: &'a [u8]) -> (u64, &'a [u8]) {
+    let mut number = 1u64;
+    let mut lines = text.split(|byte| *byte == b'\n');
+    for line in written.split(|byte| *byte == b'\n') {
+        if lines.next() != Some(line) {
+            return (number, line);
+        }
+        number = number.saturating_add(1);
+    }
+    (number, &[])
+}

@@ -1,0 +1,2 @@
+pub mod SeedRuns
+pub mod Tallies

@@ -78,9 +78,13 @@ pub struct Options<'a> {
     pub seed: u64,
     /// The file for the log as JSON, if one is asked for. `serve` has no such option.
     pub json: Option<&'a str>,
+    /// The file for the waves, if one is asked for. `serve` has no such option.
+    pub wave: Option<&'a str>,
+    /// How many steps a tick of the waves has.
+    pub steps: u64,
 }
 
-/// Creates the command line: `run [--trace] [--explain] [--json FILE] [--seed N | --seeds A-B] [--test NAME] FILE..`, `serve` with the options `--trace`,
+/// Creates the command line: `run [--trace] [--explain] [--json FILE] [--wave FILE [--steps N]] [--seed N | --seeds A-B] [--test NAME] FILE..`, `serve` with the options `--trace`,
 /// `--seed` and `--test` and one FILE, `check [--serve] FILE..`, and `legal [--test NAME] FILE`. Errors: out of memory.
 pub fn command<'a>(alloc: Global) -> Result<Command<'a>, AllocError> {
     let run = run_command(alloc)?;
@@ -104,7 +108,7 @@ fn top_command<'a>(alloc: Global) -> Command<'a> {
         .subcommand_required(true)
 }
 
-// Creates `run [--trace] [--explain] [--json FILE] [--seed N | --seeds A-B] [--test NAME] FILE..`. Errors: out of memory.
+// Creates `run [--trace] [--explain] [--json FILE] [--wave FILE [--steps N]] [--seed N | --seeds A-B] [--test NAME] FILE..`. Errors: out of memory.
 fn run_command<'a>(alloc: Global) -> Result<Command<'a>, AllocError> {
     run_options(alloc)?.arg(test_arg(alloc))?.arg(files_arg(
         alloc,
@@ -145,7 +149,7 @@ fn check_command<'a>(alloc: Global) -> Result<Command<'a>, AllocError> {
         .arg(files_arg(alloc, "A testbench file, in TOML"))
 }
 
-// Creates `run [--trace] [--explain] [--json FILE] [--seed N | --seeds A-B]`. Errors: out of memory.
+// Creates `run [--trace] [--explain] [--json FILE] [--wave FILE [--steps N]] [--seed N | --seeds A-B]`. Errors: out of memory.
 fn run_options<'a>(alloc: Global) -> Result<Command<'a>, AllocError> {
     Command::new(alloc, "run")
         .about(ABOUT_RUN)
@@ -153,6 +157,8 @@ fn run_options<'a>(alloc: Global) -> Result<Command<'a>, AllocError> {
         .arg(trace_arg(alloc))?
         .arg(explain_arg(alloc))?
         .arg(json_arg(alloc))?
+        .arg(wave_arg(alloc))?
+        .arg(steps_arg(alloc))?
         .arg(seed_arg(alloc))?
         .arg(seeds_arg(alloc)?)
 }
@@ -170,6 +176,22 @@ fn json_arg<'a>(alloc: Global) -> Arg<'a> {
     Arg::new(alloc, "json").long("json").value_name("JSON").help(
         "Also writes the log to the file JSON, an object on a line for each entry",
     )
+}
+
+fn wave_arg<'a>(alloc: Global) -> Arg<'a> {
+    Arg::new(alloc, "wave").long("wave").value_name("VCD").help(
+        "Also writes waves to the file VCD, and beside it a file .gtkw with what GTKWave shows of them",
+    )
+}
+
+fn steps_arg<'a>(alloc: Global) -> Arg<'a> {
+    Arg::new(alloc, "steps")
+        .long("steps")
+        .value_name("N")
+        .help(
+            "The number of steps that a tick of the waves has: each entry at a time is one step later (1 if omitted)",
+        )
+        .value_parser(value_parser!(u64))
 }
 
 fn trace_arg<'a>(alloc: Global) -> Arg<'a> {
@@ -197,6 +219,7 @@ fn seeds_arg<'a>(alloc: Global) -> Result<Arg<'a>, AllocError> {
         .conflicts_with("trace")?
         .conflicts_with("explain")?
         .conflicts_with("json")?
+        .conflicts_with("wave")?
         .conflicts_with("seed")
 }
 
@@ -221,14 +244,23 @@ fn file_arg<'a>(alloc: Global) -> Arg<'a> {
         .required(true)
 }
 
-/// Returns the options of `run` or `serve`. The seed is 1 if it is omitted. `is_run` says whether the command is `run`.
+/// Returns the options of `run` or `serve`. The seed and the steps are 1 if they are omitted. `is_run` says whether the command is `run`.
 pub fn options_of<'a>(given: &'a ArgMatches<'_>, is_run: bool) -> Options<'a> {
-    Options {
+    let mut options = Options {
         trace: given.get_flag("trace"),
-        explain: is_run && given.get_flag("explain"),
+        explain: false,
         seed: given.get_one("seed").unwrap_or(1),
-        json: if is_run { given.get_str("json") } else { None },
+        json: None,
+        wave: None,
+        steps: 1,
+    };
+    if is_run {
+        options.explain = given.get_flag("explain");
+        options.json = given.get_str("json");
+        options.wave = given.get_str("wave");
+        options.steps = given.get_one("steps").unwrap_or(1);
     }
+    options
 }
 
 /// Returns the seeds of `A-B`, or of `A` alone; `None` if the text is no range of seeds.

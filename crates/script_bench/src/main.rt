@@ -8,6 +8,7 @@ mod commands;
 mod files;
 mod judgements;
 mod program;
+mod records;
 
 use script_input::Breakage;
 use std::io::{BufReader, BufWriter, Input};

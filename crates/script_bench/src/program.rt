@@ -4,19 +4,19 @@ use crate::checks::check_files;
 use crate::commands::{Options, command, options_of, seeds_in};
 use crate::files::{BROKEN, REFUSED, bytes_of, report_unread};
 use crate::judgements::judge_file;
+use crate::records::write_records;
 use bench_script::ScriptFault;
 use clap::error::ErrorKind;
 use clap::{ArgMatches, Error};
 use script_explain::explain;
 use script_input::Breakage;
 use script_jobs::{EndedRun, Verdict, run_to_core};
-use script_json::write_log;
 use script_seeds::{Seeds, run_seeds};
 use serve_jobs::{Pipe, serve_bench, serve_nothing};
 use std::alloc::Global;
-use std::io::{BufRead, BufWriter, Write};
+use std::io::{BufRead, Write};
 use std::rt::{Env, Files};
-use std::{env, fs, io};
+use std::{env, io};
 use uvm_glob::{Name, PathFault};
 
 /// Executes the command line and returns the exit status: the greatest of the files' statuses (0 clean, 1 faulty, 2 rejected, 3 broken). For
@@ -108,8 +108,8 @@ fn obey<R: Files + AllocGlobal, I: BufRead + Drop, O: Write + Drop, E: Write>(
         return judge_file(rt, file, test.as_ref(), (input, &mut out), err);
     }
     let options = options_of(given, word == "run");
-    if options.json.is_some() && files.len() > 1 {
-        let _ = writeln!(err, "script_bench: --json: only for one file");
+    if let Some(why) = options_fault(&options, files.len()) {
+        let _ = writeln!(err, "script_bench: {why}");
         return REFUSED;
     }
     match (word, files) {
@@ -124,6 +124,16 @@ fn obey<R: Files + AllocGlobal, I: BufRead + Drop, O: Write + Drop, E: Write>(
                 REFUSED
             }
         },
+    }
+}
+
+// Returns why the options do not go with so many files; `None` if they do.
+fn options_fault(options: &Options<'_>, files: usize) -> Option<&'static str> {
+    match options {
+        Options { steps: 0, .. } => Some("--steps: at least 1"),
+        Options { json: Some(_), .. } if files > 1 => Some("--json: only for one file"),
+        Options { wave: Some(_), .. } if files > 1 => Some("--wave: only for one file"),
+        _ => None,
     }
 }
 
@@ -298,38 +308,7 @@ fn run_once<R: Files + AllocGlobal, O: Write, E: Write>(
     if options.explain && is_explained(&verdict) {
         explain_run(rt.alloc(), file, run, err);
     }
-    match options.json {
-        Some(path) => verdict.status().max(write_json(rt, path, run, err)),
-        None => verdict.status(),
-    }
-}
-
-// Writes the log of a run to a file. Returns 0, or 3 if the file could not be written.
-fn write_json<R: Files + AllocGlobal, E: Write>(
-    rt: &R,
-    path: &str,
-    run: &EndedRun,
-    err: &mut E,
-) -> u8 {
-    match written(rt, path, run) {
-        Ok(()) => 0,
-        Err(error) => {
-            let why = if error.kind() == io::ErrorKind::OutOfMemory {
-                "memory"
-            } else {
-                "cannot write the file"
-            };
-            let _ = writeln!(err, "script_bench: {path}: {why}");
-            BROKEN
-        }
-    }
-}
-
-// Writes the log of a run to a file, in place of what the file held. Errors: those of the file; out of memory.
-fn written<R: Files + AllocGlobal>(rt: &R, path: &str, run: &EndedRun) -> io::Result<()> {
-    let mut out = BufWriter::new(rt.alloc(), fs::create(rt, path)?)?;
-    write_log(rt.alloc(), &run.core, &mut out)?;
-    out.flush()
+    verdict.status().max(write_records(rt, options, run, err))
 }
 
 // Returns whether a run is explained: not if memory ran out or the output failed.

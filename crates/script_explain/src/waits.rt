@@ -33,6 +33,9 @@ pub(crate) fn push_holders(facts: &Facts<'_>, page: &mut Page) {
     }
     let mut section = Section::new("Objections that are raised");
     for phase in TASKS {
+        if !facts.world.has_objection(phase) {
+            continue;
+        }
         push_sources(facts, phase, NodeId::TOP, &mut section, page);
         for node in &facts.nodes {
             push_sources(facts, phase, *node, &mut section, page);

@@ -49,7 +49,7 @@ impl<'a> Facts<'a> {
     ) -> Result<Facts<'a>, AllocError> {
         let (tree, wiring, sequences) = (world.tree(), world.wiring(), world.sequences());
         let records = Records::of_log(alloc, core.log(), sequences)?;
-        let nodes = nodes_of(alloc, tree)?;
+        let nodes = nodes_of(alloc, tree, wiring)?;
         Ok(Facts {
             alloc,
             core,
@@ -66,9 +66,17 @@ impl<'a> Facts<'a> {
     }
 }
 
-// Returns all nodes of a tree but the root, in path order. Errors: out of memory.
-fn nodes_of(alloc: Global, tree: &Tree) -> Result<Vec<NodeId>, AllocError> {
+// Returns all nodes of a tree but the root, in path order, which the wiring has once connect has ended. Errors: out of memory.
+fn nodes_of(alloc: Global, tree: &Tree, wiring: &Wiring) -> Result<Vec<NodeId>, AllocError> {
     let mut nodes = Vec::new(alloc);
+    if wiring.is_closed() {
+        for node in wiring.order() {
+            if *node != NodeId::TOP {
+                nodes.push(*node)?;
+            }
+        }
+        return Ok(nodes);
+    }
     let mut last = None;
     for _place in 0..Tree::MAX_NODES {
         last = tree.next_down(last);

@@ -75,6 +75,10 @@ impl<'a> State<'a> {
         services::sequencer(self.world, node)
     }
 
+    pub fn has_objection(&self, phase: Phase) -> bool {
+        status::objection_stands(self.world, phase)
+    }
+
     pub fn raised(&self, phase: Phase, node: NodeId) -> u64 {
         status::source_in(self.world, phase, node)
     }

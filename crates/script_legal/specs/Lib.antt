@@ -1,2 +1,1 @@
 pub mod Judgements
-pub mod KnownNumbers

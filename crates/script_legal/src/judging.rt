@@ -3,7 +3,8 @@
 ghost use Rattle.std.specs.Prelude.{◌≡◌, ◌≢◌, IsTrue, Ok, option_copied};
 ghost use Rattle.script_legal.specs.Judgements.{IsLegalText, IsRunText, IsWhole};
 
-use crate::words::{KnownWords, shown_words};
+use crate::words::shown_words;
+use bench_replay::KnownWords;
 use script_input::Breakage;
 use script_jobs::{Bench, Verdict, laws};
 use script_seeds::Kept;

@@ -1,10 +1,11 @@
 -- The runs that were made so far, and one more.
-use Rattle.std.proofs.Common.{◌≡◌, ◌≤◌, ◌+◌, ℕ, Bool, true, false, List, [], ◌∷◌, ◌++◌, Option, Some, None, ap, arith, append-nil, append_assoc, add-one, refl, sym, subst, ◌∙◌, if◌then◌else◌}
+use Rattle.std.proofs.Common.{◌≡◌, ◌≤◌, ◌+◌, ℕ, Bool, true, false, List, [], ◌∷◌, ◌++◌, Option, Some, ap, arith, append-nil, add-one, refl, sym, subst, ◌∙◌, if◌then◌else◌}
 use Rattle.std.proofs.lemmas.List.Elements.{All-nil, All-push, All-weaker}
 use Rattle.std.proofs.lemmas.List.Concat.{flat_map-append}
 use Rattle.std.proofs.lemmas.List.Sums.{fold-append}
 use Rattle.std.specs.Prelude.{All, count_by, map, max}
 use Rattle.std.specs.List.{flat_map}
+use Rattle.std.proofs.KnownBytes.{Appends-nil, Appends-trans}
 use Rattle.std.specs.Io.KnownBytes.{Appends}
 use Rattle.script_jobs.specs.Verdicts.{status_of}
 use Rattle.script_jobs.specs.Benches.{BenchValue, HasRead}
@@ -24,18 +25,8 @@ pub record MadeSome (bench : BenchValue) (first count : ℕ) (old new : Option (
   pub few : tally.clean ≤ count
   pub status : tally.status ≡ greatest_status runs
 
-appends-none : (held : Option (List ℕ)) → Appends held held []
-appends-none None = tt
-appends-none (Some bytes) = sym (append-nil bytes)
-
-appends-more : (old mid new : Option (List ℕ)) (xs ys : List ℕ) → Appends old mid xs → Appends mid new ys → Appends old new (xs ++ ys)
-appends-more None mid new xs ys first more = tt
-appends-more (Some before) None new xs ys first more = absurd first
-appends-more (Some before) (Some half) None xs ys first more = absurd more
-appends-more (Some before) (Some half) (Some after) xs ys first more = more ∙ ap (λ l. l ++ ys) first ∙ append_assoc before xs ys
-
 pub made-none : (bench : BenchValue) (first : ℕ) (held : Option (List ℕ)) (tally : Tally) → tally.clean ≡ 0 → tally.status ≡ 0 → MadeSome bench first 0 held held tally
-made-none bench first held tally none least = record { runs = []; seeds = refl; each = All-nil (IsRunFor bench); wrote = appends-none held; clean = none; few = omega arith; status = least }
+made-none bench first held tally none least = record { runs = []; seeds = refl; each = All-nil (IsRunFor bench); wrote = Appends-nil held; clean = none; few = omega arith; status = least }
 
 map-push : (runs : List SeedRun) (run : SeedRun) → map (λ (it : SeedRun). it.seed) (runs ++ run ∷ []) ≡ map (λ (it : SeedRun). it.seed) runs ++ run.seed ∷ []
 map-push [] run = refl
@@ -63,7 +54,7 @@ made-more bench first count old mid new before after made next =
       runs = runs ++ run ∷ [];
       seeds = map-push runs run ∙ ap (λ l. l ++ run.seed ∷ []) made.seeds ∙ ap (λ seed. seeds_from first count ++ seed ∷ []) next.seed_is ∙ sym (ap (seeds_from first) (add-one count));
       each = All-push (IsRunFor bench) runs run made.each next.made;
-      wrote = subst (Appends old new) (sym (lines-push runs run)) (appends-more old mid new (flat_map line_of runs) (line_of run) made.wrote next.wrote);
+      wrote = subst (Appends old new) (sym (lines-push runs run)) (Appends-trans old mid new (flat_map line_of runs) (line_of run) made.wrote next.wrote);
       clean = next.added.clean ∙ ap (λ n. n + (if is_clean_run run then 1 else 0)) made.clean ∙ sym (count-push runs run);
       few = omega (arith, next.added.clean, made.few, at-most-one (is_clean_run run));
       status = next.added.status ∙ ap (λ most. max most (status_of run.verdict)) made.status ∙ sym (greatest-push runs run);
@@ -76,7 +67,7 @@ made-all bench first count old mid new tally made last = record {
   runs = made.runs;
   seeds = made.seeds;
   each = made.each;
-  wrote = subst (λ clean. Appends old new (flat_map line_of made.runs ++ count_line count clean)) made.clean (appends-more old mid new (flat_map line_of made.runs) (count_line count tally.clean) made.wrote last);
+  wrote = subst (λ clean. Appends old new (flat_map line_of made.runs ++ count_line count clean)) made.clean (Appends-trans old mid new (flat_map line_of made.runs) (count_line count tally.clean) made.wrote last);
   status = made.status;
 }
 

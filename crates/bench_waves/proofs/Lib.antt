@@ -1,0 +1,3 @@
+pub mod Dumps
+pub mod Ticks
+pub mod Waved

@@ -2,10 +2,10 @@
 
 use crate::signals::Signal;
 use std::alloc::{AllocError, Global};
-use uvm_tree::{NodeId, Tree};
+use uvm_tree::Tree;
 
 // The scope of the variables of the run.
-pub(crate) const RUN: &str = "uvm";
+const RUN: &str = "uvm";
 
 // Returns the head of a dump, with a variable for each signal; its code is its place. Errors: out of memory.
 pub(crate) fn head_of(
@@ -19,12 +19,14 @@ pub(crate) fn head_of(
     let comment = format!(in alloc; "$comment steps in a tick: {steps} $end\n")?;
     head.extend_from_slice(comment.as_bytes())?;
     let mut depth = 0;
-    let mut scope = None;
+    let mut scope: &[u8] = b"";
     for (place, signal) in signals.iter().enumerate() {
-        if place == 0 || signal.node() != scope {
-            close_scopes(depth, &mut head)?;
-            scope = signal.node();
-            depth = open_scopes(tree, scope, &mut head)?;
+        let path = scope_of(tree, signal);
+        if path != scope {
+            let shared = shared_names(scope, path);
+            close_scopes(depth - shared.min(depth), &mut head)?;
+            depth = open_scopes(path, shared, &mut head)?;
+            scope = path;
         }
         let kind = if signal.is_text() {
             "string 1"
@@ -40,20 +42,41 @@ pub(crate) fn head_of(
     Ok(head)
 }
 
-// Opens the scopes of a node, or that of the run. Returns how many there are. Errors: out of memory.
-fn open_scopes(tree: &Tree, node: Option<NodeId>, head: &mut Vec<u8>) -> Result<usize, AllocError> {
-    let path = match node {
+// Returns the scope of a variable: the names of its node, or that of the run, with dots between them.
+pub(crate) fn scope_of<'a>(tree: &'a Tree, signal: &Signal) -> &'a [u8] {
+    let path = match signal.node() {
         Some(node) => tree.path(node),
         None => None,
     };
-    let Some(path) = path else {
-        open_scope(RUN.as_bytes(), head)?;
-        return Ok(1);
-    };
-    for name in path.as_bytes().split(|byte| *byte == b'.') {
-        open_scope(name, head)?;
+    match path {
+        Some(path) => path.as_bytes(),
+        None => RUN.as_bytes(),
     }
-    Ok(path.depth())
+}
+
+// Returns how many names two scopes share at their beginning.
+fn shared_names(one: &[u8], other: &[u8]) -> usize {
+    let mut count = 0usize;
+    let mut names = other.split(|byte| *byte == b'.');
+    for name in one.split(|byte| *byte == b'.') {
+        if names.next() != Some(name) {
+            return count;
+        }
+        count = count.saturating_add(1);
+    }
+    count
+}
+
+// Opens the scopes of a path, but for the first ones, which are open. Returns how many names the path has. Errors: out of memory.
+fn open_scopes(path: &[u8], open: usize, head: &mut Vec<u8>) -> Result<usize, AllocError> {
+    let mut depth = 0usize;
+    for name in path.split(|byte| *byte == b'.') {
+        if depth >= open {
+            open_scope(name, head)?;
+        }
+        depth = depth.saturating_add(1);
+    }
+    Ok(depth)
 }
 
 // Opens a scope. Errors: out of memory.

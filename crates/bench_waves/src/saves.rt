@@ -1,6 +1,6 @@
 //! A save file for GTKWave, which says what it shows at first.
 
-use crate::headers::RUN;
+use crate::headers::scope_of;
 use crate::signals::{Signal, signals_of};
 use bench_core::{Core, services};
 use std::alloc::{AllocError, Global};
@@ -44,7 +44,7 @@ fn push_traces(
         if place == 0 || signal.node() != scope {
             scope = signal.node();
             text.extend_from_slice(b"@200\n-")?;
-            push_scope(tree, signal, text)?;
+            text.extend_from_slice(scope_of(tree, signal))?;
             text.push(b'\n')?;
         }
         push_trace(tree, signal, text)?;
@@ -56,21 +56,9 @@ fn push_traces(
 fn push_trace(tree: &Tree, signal: &Signal, text: &mut Vec<u8>) -> Result<(), AllocError> {
     let format: &[u8] = if signal.is_text() { b"@28\n" } else { b"@24\n" };
     text.extend_from_slice(format)?;
-    push_scope(tree, signal, text)?;
+    text.extend_from_slice(scope_of(tree, signal))?;
     text.push(b'.')?;
     text.extend_from_slice(signal.name().as_bytes())?;
     text.push(b'\n')?;
     Ok(())
-}
-
-// Appends the scope of a variable. Errors: out of memory.
-fn push_scope(tree: &Tree, signal: &Signal, text: &mut Vec<u8>) -> Result<(), AllocError> {
-    let path = match signal.node() {
-        Some(node) => tree.path(node),
-        None => None,
-    };
-    match path {
-        Some(path) => text.extend_from_slice(path.as_bytes()),
-        None => text.extend_from_slice(RUN.as_bytes()),
-    }
 }

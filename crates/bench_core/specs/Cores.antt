@@ -8,6 +8,7 @@ use Rattle.uvm_acts.specs.declared.acts.Act.{Act}
 use Rattle.uvm_object.specs.declared.entries.Entry.{Entry}
 use Rattle.uvm_object.specs.declared.entries.Entry.TheVariants.{Granted}
 use Rattle.uvm_lines.specs.Lines.{entry_line}
+use Rattle.uvm_report.specs.Plain.{IsLineAtMost}
 use Rattle.bench_script.specs.Scripts.{ScriptValue}
 use Rattle.bench_history.specs.Limits.{log_limit}
 use Rattle.bench_history.specs.History.{nodes_of}
@@ -182,3 +183,8 @@ last_line true (entry ∷ before) = entry_line (nodes_of (entry ∷ before)) (se
 -- the text of the newest entry: its line if tracing is on, and the line of its report if it has one that is displayed
 abbrev pub last_text : Bool → ScriptValue → List Entry → List ℕ
 last_text trace script history = last_line trace history ++ report_text script history
+
+-- the text of the newest entry is at most two lines: the line of the entry, and that of its report
+pub record HasFewLines (trace : Bool) (script : ScriptValue) (history : List Entry) : Type 0 where
+  pub entry : IsLineAtMost (last_line trace history)
+  pub report : IsLineAtMost (report_text script history)

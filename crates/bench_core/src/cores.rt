@@ -18,12 +18,12 @@ ghost use Rattle.bench_history.specs.Reports.{report_commands};
 ghost use Rattle.bench_history.specs.Sequences.{sequences_of};
 ghost use Rattle.uvm_glob.specs.Printed.{IsPrinted};
 ghost use Rattle.uvm_report.specs.Changes.{ReportsAgree};
-ghost use Rattle.uvm_report.specs.Plain.{ArePlainLines};
+ghost use Rattle.uvm_report.specs.Plain.{ArePlainLines, IsLineAtMost};
 ghost use Rattle.uvm_lines.specs.Lines.{who_text};
 ghost use Rattle.bench_history.specs.Next.{next_of, made_in, declined_in, IsLegal};
 ghost use Rattle.bench_history.specs.Cases as comes;
 ghost use Rattle.bench_history.specs.Laws.{IsSomething};
-ghost use Rattle.bench_core.specs.Cores.{DrawsOne, HasEntered, IsDrawing, IsDrawn, IsNextTurn, IsToldTurn, IsTurn, drawn_by, word_in, IsUnmade, core_after, failed_from, is_sound, turn_of, need_of, answer_in, is_good, turn_after, call_of, IsAsk, AsksSomething, AsksThere, last_line, last_text};
+ghost use Rattle.bench_core.specs.Cores.{DrawsOne, HasEntered, IsDrawing, IsDrawn, IsNextTurn, IsToldTurn, IsTurn, drawn_by, word_in, IsUnmade, core_after, failed_from, is_sound, turn_of, need_of, answer_in, is_good, turn_after, call_of, IsAsk, AsksSomething, AsksThere, HasFewLines, last_line, last_text};
 ghost use Rattle.bench_core.specs.Worlds.{broken, made_who};
 ghost use Rattle.bench_core.specs.NextActions.{IsNextAction};
 ghost use Rattle.bench_core.specs.Cores.{Nothing, IsRequest};
@@ -321,15 +321,16 @@ impl Core {
         Some(services::reports(&self.world))
     }
 
-    /// Appends the text of the newest entry: its line if `trace` is true, and the line of its report if it has one that is displayed. The
-    /// text is whole transcript lines. Their bytes are printable, and no line begins with `!` or `?`. If `out` is empty, the line
+    /// Appends the text of the newest entry: its line if `trace` is true, and the line of its report if it has one that is displayed. Each
+    /// is one line. Their bytes are printable, and no line begins with `!` or `?`. If `out` is empty, the line
     /// of the entry is built in it, otherwise in a vector of its own. After an out-of-memory error of the core nothing is appended. Errors:
     /// out of memory, only if there is text to append. An error appends nothing.
-    #[tactic(auto, using(crate::proofs::Shown::some_in_front, crate::proofs::Shown::some_behind, crate::proofs::Shown::plain))]
+    #[tactic(auto, using(crate::proofs::Shown::some_in_front, crate::proofs::Shown::some_behind, crate::proofs::Shown::whole, crate::proofs::Shown::few))]
     pub fn last_text(&self, trace: bool, out: &mut Vec<u8>) -> Result<(), AllocError>
         ensures ok { OnOk result (out.new.items ≡ out.old.items ++ (if is_sound self.now.health then last_text trace self.now.script self.now.history else [])) }
         ensures err { OnErr result (out.new.items ≡ out.old.items) }
         ensures plain { OnOk result (ArePlainLines (if is_sound self.now.health then last_text trace self.now.script self.now.history else [])) }
+        ensures lines { OnOk result (is_sound self.now.health ≡ true → HasFewLines trace self.now.script self.now.history) }
         ensures some { OnErr result (last_text trace self.now.script self.now.history ≢ []) }
     {
         if !self.is_sound() {
@@ -368,7 +369,7 @@ impl Core {
         requires { is_sound self.now.health ≡ true }
         ensures ok { OnOk result (text.new.items ≡ text.old.items ++ last_line trace self.now.history) }
         ensures err { OnErr result (text.new.items ≡ text.old.items) }
-        ensures plain { OnOk result (ArePlainLines (last_line trace self.now.history)) }
+        ensures plain { OnOk result (IsLineAtMost (last_line trace self.now.history)) }
         ensures some { OnErr result (last_line trace self.now.history ≢ []) }
     {
         match self.world.log().last() {

@@ -14,7 +14,7 @@ use Rattle.bench_history.specs.Next.{IsLegal, declined_in, next_of}
 use Rattle.bench_history.specs.Limits.{log_limit}
 use Rattle.bench_history.specs.History.{is_over}
 use Rattle.bench_history.specs.Reports.{report_commands}
-use Rattle.bench_kernel.specs.Cores.{CoreValue, core_after, last_text}
+use Rattle.bench_kernel.specs.Cores.{CoreValue, HasFewLines, core_after, last_text}
 use Rattle.bench_kernel.specs.Health.TheVariants.{Good}
 use Rattle.bench_kernel.specs.Kernels.{KernelValue}
 use Rattle.bench_run.specs.Words.{HasGiven, HasWordsOf, may_lose}
@@ -28,6 +28,11 @@ abbrev pub transcript : Bool → ScriptValue → List Entry → List ℕ
 transcript trace script [] = []
 transcript trace script (entry ∷ before) = transcript trace script before ++ last_text trace script (entry ∷ before)
 
+-- the text of each entry of a log is at most two lines: the line of the entry, and that of its report
+abbrev pub HaveFewLines : Bool → ScriptValue → List Entry → Type 0
+HaveFewLines trace script [] = Unit {0}
+HaveFewLines trace script (entry ∷ before) = HasFewLines trace script (entry ∷ before) × HaveFewLines trace script before
+
 -- the counts of the reports of a log
 abbrev pub log_counts : ScriptValue → List Entry → Counts
 log_counts script history = report_counts (report_commands script history)
@@ -36,9 +41,10 @@ log_counts script history = report_counts (report_commands script history)
 abbrev pub summary_of : ScriptValue → List Entry → List ℕ
 summary_of script history = summary_text (quit_limit (report_commands script history)) (log_counts script history)
 
--- the log is legal, and its text was written, followed by `more`
+-- the log is legal, and its text was written, followed by `more`; the text of an entry is a line, and one more if its report is displayed
 pub record WroteLog (script : ScriptValue) (trace : Bool) (old new : Option (List ℕ)) (history : List Entry) (more : List ℕ) : Type 0 where
   pub legal : IsLegal script history
+  pub lines : HaveFewLines trace script history
   pub wrote : Appends old new (transcript trace script history ++ more)
 
 -- the result of a run: why it ended, and how many reports were issued as ERROR and as FATAL

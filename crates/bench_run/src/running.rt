@@ -5,7 +5,7 @@ ghost use Rattle.std.specs.Io.KnownBytes.{Appends};
 ghost use Rattle.bench_history.specs.Next.{IsLegal, need_in, next_of};
 ghost use Rattle.bench_kernel.specs.Health.TheVariants.{Good};
 ghost use Rattle.bench_history.specs.History.{is_over};
-ghost use Rattle.bench_kernel.specs.Cores.{IsDrawn, is_sound, last_text, word_in};
+ghost use Rattle.bench_kernel.specs.Cores.{HasFewLines, IsDrawn, is_sound, last_text, word_in};
 ghost use Rattle.bench_kernel.specs.Kernels.{open_need, wanted_in};
 ghost use Rattle.bench_kernel.specs.Steps.{IsSameLog, IsSupplied};
 ghost use Rattle.bench_run.specs.Words.{HasGiven, HasLost, HasWordsOf, may_lose, word_made};
@@ -272,6 +272,7 @@ fn write_last<O: UvmObject, S: Sink>(
     ensures output { result ≡ Err RunFault.Output → S.refuses out.old }
     ensures steady { S.refuses out.new → S.refuses out.old }
     ensures lost { result ≡ Err RunFault.Memory → last_text trace kernel.now.core.script kernel.now.core.history ≢ [] }
+    ensures lines { OnOk result (is_sound kernel.now.core.health ≡ true → HasFewLines trace kernel.now.core.script kernel.now.core.history) }
 {
     // For the proof: the entry is the last of a legal log.
     let _log = kernel.log();

@@ -67,7 +67,7 @@ fn shared_names(one: &[u8], other: &[u8]) -> usize {
     count
 }
 
-// Opens the scopes of a path, but for the first ones, which are open. Returns how many names the path has. Errors: out of memory.
+// Opens the scopes of a path, except the first ones, which are open. Returns how many names the path has. Errors: out of memory.
 fn open_scopes(path: &[u8], open: usize, head: &mut Vec<u8>) -> Result<usize, AllocError> {
     let mut depth = 0usize;
     for name in path.split(|byte| *byte == b'.') {

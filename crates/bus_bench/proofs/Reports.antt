@@ -36,7 +36,7 @@ debug_run-kept bytes old mid new (Refused fault) done kept = (done.0, done.1, Ke
 debug_run-kept bytes old mid new (Broken breakage) done kept = broke_off-kept _ old mid new breakage done kept
 
 wrote_log-kept : (script : ScriptValue) (trace : Bool) (old mid new : Option (List ℕ)) (history : List Entry) (more : List ℕ) → WroteLog script trace old mid history more → Keeps mid new → WroteLog script trace old new history more
-wrote_log-kept script trace old mid new history more log kept = record { legal = log.legal; wrote = Appends-kept old mid new _ log.wrote kept }
+wrote_log-kept script trace old mid new history more log kept = record { legal = log.legal; lines = log.lines; wrote = Appends-kept old mid new _ log.wrote kept }
 
 leaves_run-kept : (script : ScriptValue) (trace : Bool) (history : List Entry) (old mid new : Option (List ℕ)) (result : Result RunResult RunFault) → LeavesRun script trace history old mid result → Keeps mid new → LeavesRun script trace history old new result
 leaves_run-kept script trace history old mid new (Ok run_result) ran kept = (ran.0, wrote_log-kept script trace old mid new history _ ran.1 kept)

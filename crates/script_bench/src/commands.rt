@@ -30,16 +30,28 @@ const ABOUT_LEGAL: &str =
     "Judges a transcript, read from standard input: whether a run of a testbench file writes it";
 
 const AFTER_LEGAL: &str =
-    "The transcript is that of `run --trace`. The file runs with the random numbers that the transcript shows, and what it writes is compared.
+    "The transcript is that of `run --trace` or `serve --trace`. The file runs with the random numbers that the transcript shows, and what it
+writes is compared. With --any the objects may answer anything: their actions are read off the transcript.
 
 Exit status:
   0  a run of the file writes the transcript
-  1  none does with these random numbers: the first line that differs is named, with what the run writes there
+  1  no run does: the first line that differs is named, with what a run writes there
   2  the file or the command line was refused
-  3  out of memory, output failed, or the file or the transcript was not read
+  3  with --any: a line does not show what decides; out of memory, output failed, or the file or the transcript was not read
 
 Example, in crates/script_bench:
   script_bench run --trace data/bus.toml | script_bench legal data/bus.toml";
+
+const ABOUT_WAVE: &str =
+    "Writes the waves of the run whose transcript is read from standard input, as run --wave does";
+
+const AFTER_WAVE: &str =
+    "The transcript is that of `run --trace` or `serve --trace`. The objects may have answered anything: their actions are read off it.
+
+Exit status: that of legal --any; only a transcript with status 0 has waves.
+
+Example, in crates/script_bench:
+  script_bench run --trace data/bus.toml | script_bench wave --wave bus.vcd data/bus.toml";
 
 const AFTER_SERVE: &str =
     "The objects of types without [answers] are in another program, the client. It reads the questions from standard output, and writes the
@@ -85,17 +97,20 @@ pub struct Options<'a> {
 }
 
 /// Creates the command line: `run [--trace] [--explain] [--json FILE] [--wave FILE [--steps N]] [--seed N | --seeds A-B] [--test NAME] FILE..`, `serve` with the options `--trace`,
-/// `--seed` and `--test` and one FILE, `check [--serve] FILE..`, and `legal [--test NAME] FILE`. Errors: out of memory.
+/// `--seed` and `--test` and one FILE, `check [--serve] FILE..`, `legal [--any] [--test NAME] FILE`, and `wave --wave FILE [--steps N] [--test
+/// NAME] FILE`. Errors: out of memory.
 pub fn command<'a>(alloc: Global) -> Result<Command<'a>, AllocError> {
     let run = run_command(alloc)?;
     let serve = serve_command(alloc)?;
     let check = check_command(alloc)?;
     let legal = legal_command(alloc)?;
+    let wave = wave_command(alloc)?;
     top_command(alloc)
         .subcommand(run)?
         .subcommand(serve)?
         .subcommand(check)?
-        .subcommand(legal)
+        .subcommand(legal)?
+        .subcommand(wave)
 }
 
 // Creates `script_bench` without its subcommands.
@@ -127,11 +142,34 @@ fn serve_command<'a>(alloc: Global) -> Result<Command<'a>, AllocError> {
         .arg(file_arg(alloc))
 }
 
-// Creates `legal [--test NAME] FILE`. Errors: out of memory.
+// Creates `legal [--any] [--test NAME] FILE`. Errors: out of memory.
 fn legal_command<'a>(alloc: Global) -> Result<Command<'a>, AllocError> {
+    let any = Arg::new(alloc, "any")
+        .long("any")
+        .help("Judges whether some legal run has the transcript, whatever the objects answer")
+        .action(ArgAction::SetTrue);
     Command::new(alloc, "legal")
         .about(ABOUT_LEGAL)
         .after_help(AFTER_LEGAL)
+        .arg(any)?
+        .arg(test_arg(alloc))?
+        .arg(file_arg(alloc))
+}
+
+// Creates `wave --wave FILE [--steps N] [--test NAME] FILE`. Errors: out of memory.
+fn wave_command<'a>(alloc: Global) -> Result<Command<'a>, AllocError> {
+    let wave = Arg::new(alloc, "wave")
+        .long("wave")
+        .value_name("VCD")
+        .help(
+            "The file for the waves; beside it stands a file .gtkw with what GTKWave shows of them",
+        )
+        .required(true);
+    Command::new(alloc, "wave")
+        .about(ABOUT_WAVE)
+        .after_help(AFTER_WAVE)
+        .arg(wave)?
+        .arg(steps_arg(alloc))?
         .arg(test_arg(alloc))?
         .arg(file_arg(alloc))
 }
@@ -242,6 +280,18 @@ fn file_arg<'a>(alloc: Global) -> Arg<'a> {
         .value_name("FILE")
         .help("A testbench file, in TOML")
         .required(true)
+}
+
+/// Returns the options of `wave`. The steps are 1 if they are omitted.
+pub fn wave_options<'a>(given: &'a ArgMatches<'_>) -> Options<'a> {
+    Options {
+        trace: false,
+        explain: false,
+        seed: 1,
+        json: None,
+        wave: given.get_str("wave"),
+        steps: given.get_one("steps").unwrap_or(1),
+    }
 }
 
 /// Returns the options of `run` or `serve`. The seed and the steps are 1 if they are omitted. `is_run` says whether the command is `run`.

@@ -1,9 +1,9 @@
 //! The commands of the program, on any runtime and with any writers.
 
 use crate::checks::check_files;
-use crate::commands::{Options, command, options_of, seeds_in};
+use crate::commands::{Options, command, options_of, seeds_in, wave_options};
 use crate::files::{BROKEN, REFUSED, bytes_of, report_unread};
-use crate::judgements::judge_file;
+use crate::judgements::{judge_any_file, judge_file, wave_file};
 use crate::records::write_records;
 use bench_script::ScriptFault;
 use clap::error::ErrorKind;
@@ -105,14 +105,20 @@ fn obey<R: Files + AllocGlobal, I: BufRead + Drop, O: Write + Drop, E: Write>(
         return REFUSED;
     };
     if let ("legal", [file]) = (word, files) {
-        return judge_file(rt, file, test.as_ref(), (input, &mut out), err);
+        return judge_matched(rt, file, (given, test.as_ref()), (input, &mut out), err);
     }
-    let options = options_of(given, word == "run");
+    let options = match word {
+        "wave" => wave_options(given),
+        _ => options_of(given, word == "run"),
+    };
     if let Some(why) = options_fault(&options, files.len()) {
         let _ = writeln!(err, "script_bench: {why}");
         return REFUSED;
     }
     match (word, files) {
+        ("wave", [file]) => {
+            wave_file(rt, (*file, &options), test.as_ref(), (input, &mut out), err)
+        }
         ("serve", [file]) => serve_file(rt, file, &options, test.as_ref(), (input, out), err),
         _ => match seeds_of(given) {
             Ok(seeds) => run_files(rt, files, (&options, seeds), test.as_ref(), &mut out, err),
@@ -124,6 +130,21 @@ fn obey<R: Files + AllocGlobal, I: BufRead + Drop, O: Write + Drop, E: Write>(
                 REFUSED
             }
         },
+    }
+}
+
+// Judges the transcript that the input holds, by the file or with `--any`. Returns the exit status.
+fn judge_matched<R: Files + AllocGlobal, I: BufRead + Drop, O: Write, E: Write>(
+    rt: &R,
+    file: &str,
+    (given, test): (&ArgMatches<'_>, Option<&Name>),
+    pipes: (I, &mut O),
+    err: &mut E,
+) -> u8 {
+    if given.get_flag("any") {
+        judge_any_file(rt, file, test, pipes, err)
+    } else {
+        judge_file(rt, file, test, pipes, err)
     }
 }
 

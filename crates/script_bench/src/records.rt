@@ -2,6 +2,7 @@
 
 use crate::commands::Options;
 use crate::files::BROKEN;
+use bench_core::Core;
 use bench_waves::{write_save, write_waves};
 use script_jobs::EndedRun;
 use script_json::write_log;
@@ -22,10 +23,24 @@ pub fn write_records<R: Files + AllocGlobal, E: Write>(
         status = status.max(reported(path, json_written(rt, path, run), err));
     }
     if let Some(path) = options.wave {
-        let written = waves_written(rt, path, options.steps, run);
+        let written = waves_written(rt, path, options.steps, &run.core);
         status = status.max(reported(path, written, err));
     }
     status
+}
+
+/// Writes the waves of a core to the file that the options name, and to `err` why it could not be written. Returns the exit status: 0, or 3 if
+/// a file could not be written.
+pub fn write_waves_of<R: Files + AllocGlobal, E: Write>(
+    rt: &R,
+    options: &Options<'_>,
+    core: &Core,
+    err: &mut E,
+) -> u8 {
+    match options.wave {
+        Some(path) => reported(path, waves_written(rt, path, options.steps, core), err),
+        None => 0,
+    }
 }
 
 // Writes why a file could not be written to `err`. Returns the exit status.
@@ -55,17 +70,17 @@ fn waves_written<R: Files + AllocGlobal>(
     rt: &R,
     path: &str,
     steps: u64,
-    run: &EndedRun,
+    core: &Core,
 ) -> io::Result<()> {
     if steps == 0 {
         return Err(io::Error::from(io::ErrorKind::InvalidInput));
     }
     let mut out = BufWriter::new(rt.alloc(), fs::create(rt, path)?)?;
-    write_waves(rt.alloc(), &run.core, steps, &mut out)?;
+    write_waves(rt.alloc(), core, steps, &mut out)?;
     out.flush()?;
     let name = path.strip_suffix(".vcd").unwrap_or(path);
     let save = format!(in rt.alloc(); "{name}.gtkw")?;
     let mut out = BufWriter::new(rt.alloc(), fs::create(rt, save.as_str())?)?;
-    write_save(rt.alloc(), &run.core, &mut out)?;
+    write_save(rt.alloc(), core, &mut out)?;
     out.flush()
 }

@@ -1,1 +1,6 @@
-pub mod Judged
+mod Again
+mod Judged
+mod Known
+mod Repeated
+mod Shown
+mod Told

@@ -1,8 +1,10 @@
 //! The judgement on a transcript.
 
-ghost use Rattle.std.specs.Prelude.{◌≡◌, ◌≢◌, IsTrue, Ok, option_copied};
-ghost use Rattle.script_legal.specs.Judgements.{IsLegalText, IsRunText, IsWhole};
+ghost use Rattle.std.specs.Prelude.{◌≡◌, ◌≢◌, IfOk, IsTrue, option_copied};
+ghost use Rattle.bench_replay.specs.KnownNumbers.{known_numbers};
+ghost use Rattle.script_legal.specs.Judgements.{HasJudged, IsWhole, TellsRun};
 
+use crate::lines::first_other;
 use crate::words::shown_words;
 use bench_replay::KnownWords;
 use script_input::Breakage;
@@ -20,17 +22,19 @@ pub enum Judgement {
     Other(u64, Vec<u8>),
 }
 
-/// Judges whether a text is the transcript of a run of the document with a trace, over the random numbers that the text shows. If `test` is
-/// given, it replaces the script's own test. Errors: the verdict of `run_bench` if the document is rejected; out of memory.
+/// Judges whether a text is the transcript of a run of the document with a trace, whatever its random numbers. The run that it compares with
+/// the text takes the random numbers that the text shows. If `test` is given, it replaces the script's own test. Errors: the verdict of
+/// `run_bench` if the document is rejected; out of memory.
 pub fn judge(
     alloc: Global,
     bytes: &[u8],
     test: Option<&Name>,
     text: &[u8],
 ) -> Result<Judgement, Verdict>
-    ensures { result ≡ Ok Judgement.Legal → IsLegalText bytes.now (option_copied test.entry) text.now }
+    ensures { IfOk result (HasJudged bytes.now (option_copied test.entry) text.now) }
 {
     laws::bench_runs_are_runs();
+    laws::runs_are_determined();
     let bench = match Bench::read(alloc, bytes, test) {
         Ok(bench) => bench,
         Err(verdict) => return Err(verdict),
@@ -43,7 +47,7 @@ pub fn judge(
 
 // Judges a text by the run of a bench over some random numbers. Errors: out of memory.
 fn judged(alloc: Global, bench: &Bench, words: &[u64], text: &[u8]) -> Result<Judgement, Verdict>
-    ensures { result ≡ Ok Judgement.Legal → IsRunText bench.now text.now }
+    ensures { IfOk result (TellsRun bench.now (known_numbers words.now) text.now) }
 {
     let mut known = KnownWords::new(words);
     let mut kept = Kept::new(alloc);
@@ -71,24 +75,12 @@ fn is_whole(verdict: &Verdict) -> bool
 
 // Returns the judgement on a text that differs from what the run writes. Errors: out of memory.
 fn other(alloc: Global, text: &[u8], written: &[u8]) -> Result<Judgement, Verdict>
-    ensures { result ≢ Ok Judgement.Legal }
+    requires { written.now ≢ text.now }
+    ensures { IfOk result (λ judgement. judgement ≢ Judgement.Legal) }
 {
-    let (number, line) = first_other(text, written);
+    let (number, _, line) = first_other(text, written);
     match Vec::from_slice(alloc, line) {
         Ok(line) => Ok(Judgement::Other(number, line)),
         Err(_) => Err(Verdict::Broken(Breakage::Memory)),
     }
-}
-
-// Returns the number of the first line in which two texts differ, from 1, and that line of the second.
-fn first_other<'a>(text: &[u8], written: &'a [u8]) -> (u64, &'a [u8]) {
-    let mut number = 1u64;
-    let mut lines = text.split(|byte| *byte == b'\n');
-    for line in written.split(|byte| *byte == b'\n') {
-        if lines.next() != Some(line) {
-            return (number, line);
-        }
-        number = number.saturating_add(1);
-    }
-    (number, &[])
 }

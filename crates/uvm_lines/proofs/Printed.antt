@@ -10,7 +10,7 @@ use Rattle.uvm_phase.specs.Phases.{phase_name}
 use Rattle.uvm_report.specs.declared.severities.Actions.{Actions}
 use Rattle.uvm_report.specs.declared.severities.Severity.{Severity}
 use Rattle.uvm_report.specs.declared.severities.Severity.TheVariants as severity
-use Rattle.uvm_report.specs.Plain.{ArePlainLines, begins_plain, plain-one}
+use Rattle.uvm_report.specs.Plain.{IsPlainLine, begins_plain}
 use Rattle.uvm_report.specs.Severities.{severity_name}
 use Rattle.uvm_sequencer.specs.declared.drivers.How.{How}
 use Rattle.uvm_sequencer.specs.declared.drivers.How.TheVariants as how
@@ -176,6 +176,9 @@ entry-begins nodes started (Note fatal node) = refl
 entry-begins nodes started (Over why) = refl
 
 -- the line of an entry is one of a transcript
-pub entry_plain : (nodes : List Node) (started : List Start) (entry : Entry) → IsPrinted (entry_text nodes started entry) → ArePlainLines (entry_line nodes started entry)
-entry_plain nodes started entry printed =
-    plain-one (entry_text nodes started entry) (and_from (list_all is_printed_byte (entry_text nodes started entry)) (begins_plain (entry_text nodes started entry)) printed (entry-begins nodes started entry))
+pub entry_plain : (nodes : List Node) (started : List Start) (entry : Entry) → IsPrinted (entry_text nodes started entry) → IsPlainLine (entry_line nodes started entry)
+entry_plain nodes started entry printed = record {
+  shown = entry_text nodes started entry;
+  plain = and_from (list_all is_printed_byte (entry_text nodes started entry)) (begins_plain (entry_text nodes started entry)) printed (entry-begins nodes started entry);
+  joined = refl;
+}

@@ -3,7 +3,7 @@
 ghost use Rattle.std.specs.Prelude.{◌≡◌, ◌++◌, ◌∷◌, [], IfOk, OnOk, OnErr};
 ghost use Rattle.std.specs.Fmt.{decimal, signed_decimal};
 ghost use Rattle.uvm_glob.specs.Printed.{IsPrinted};
-ghost use Rattle.uvm_report.specs.Plain.{ArePlainLines};
+ghost use Rattle.uvm_report.specs.Plain.{IsPlainLine};
 ghost use Rattle.uvm_object.specs.declared.entries.Entry.TheVariants.{Passed};
 ghost use Rattle.uvm_acts.specs.declared.acts.Call.TheVariants as call;
 ghost use Rattle.uvm_lines.specs.Lines.{entry_line, entry_text, who_text, call_text, value_text, outcome_text, reason_text};
@@ -32,7 +32,7 @@ pub fn line_of(
 ) -> Result<(), AllocError>
     ensures ok { OnOk result (out.new.items ≡ out.old.items ++ entry_line tree.now.nodes sequences.now.started entry.now) }
     ensures err { OnErr result (out.new.items ≡ out.old.items) }
-    ensures plain { OnOk result (ArePlainLines (entry_line tree.now.nodes sequences.now.started entry.now)) }
+    ensures plain { OnOk result (IsPlainLine (entry_line tree.now.nodes sequences.now.started entry.now)) }
 {
     if !out.is_empty() {
         let mut line = Vec::new(*out.allocator());
@@ -54,7 +54,7 @@ fn push_line(
     line: &mut Vec<u8>,
 ) -> Result<(), AllocError>
     ensures text { OnOk result (line.new.items ≡ line.old.items ++ entry_line tree.now.nodes sequences.now.started entry.now) }
-    ensures plain { OnOk result (ArePlainLines (entry_line tree.now.nodes sequences.now.started entry.now)) }
+    ensures plain { OnOk result (IsPlainLine (entry_line tree.now.nodes sequences.now.started entry.now)) }
 {
     push_entry(entry, tree, sequences, line)?;
     line.push(b'\n')?;

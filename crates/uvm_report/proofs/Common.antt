@@ -31,7 +31,7 @@ pub use Rattle.uvm_report.specs.Laws.{CommandsAreCounted, CommandsAreGiven, Fate
 unfoldable pub use Rattle.uvm_report.specs.Lines.{id_line, limit_line, report_line, severity_line, summary_text}
 pub use Rattle.uvm_report.specs.Lines.{line, severities}
 pub use Rattle.uvm_report.specs.Observed.{Representation}
-pub use Rattle.uvm_report.specs.Plain.{ArePlainLines, begins_plain, plain-append, plain-none, plain-one}
+pub use Rattle.uvm_report.specs.Plain.{ArePlainLines, IsPlainLine, begins_plain, plain-append, plain-none, plain-one}
 pub use Rattle.uvm_report.specs.ReportScopes.{setting_of}
 pub use Rattle.uvm_report.specs.Settings.{ChoicePrevails, IsBefore, IsNotAfter, NoChoiceWhereNoneApplies, Prevails, Setting, applies, choice_of, classes, is_of, last_of_first_class, settings_for}
 unfoldable pub use Rattle.uvm_report.specs.Settings.{choice_among}

@@ -1,5 +1,5 @@
 -- The lines of reports and of the summary are lines of a transcript.
-use Rattle.uvm_report.proofs.Common.{◌≡◌, ◌+◌, ◌<◌, get_or, take, subst, sym, ℕ, Bool, true, false, not, ◌==◌, List, [], ◌∷◌, ◌++◌, None, refl, ◌∙◌, codes, if◌then◌else◌, decimal, list_all, flat_map, and_from, not-false, flat_map-append, append-nil, take_more, list_all-append, IsPrinted, is_printed_byte, Severity, Info, Warning, Error, Fatal, TooLong, BadByte, Counts, number_of, severity_text, is_text_byte, text_fault, line, report_line, severity_line, id_line, limit_line, severities, summary_text, ArePlainLines, begins_plain, plain-append, plain-none, plain-one, nat_lt, length, Some}
+use Rattle.uvm_report.proofs.Common.{◌≡◌, ◌+◌, ◌<◌, get_or, take, subst, sym, ℕ, Bool, true, false, not, ◌==◌, List, [], ◌∷◌, ◌++◌, None, refl, ◌∙◌, codes, if◌then◌else◌, decimal, list_all, flat_map, and_from, not-false, flat_map-append, append-nil, take_more, list_all-append, IsPrinted, is_printed_byte, Severity, Info, Warning, Error, Fatal, TooLong, BadByte, Counts, number_of, severity_text, is_text_byte, text_fault, line, report_line, severity_line, id_line, limit_line, severities, summary_text, ArePlainLines, IsPlainLine, begins_plain, plain-append, plain-none, plain-one, nat_lt, length, Some}
 
 -- two printed texts
 pub printed-append : (front back : List ℕ) → IsPrinted front → IsPrinted back → IsPrinted (front ++ back)
@@ -47,10 +47,13 @@ report-printed : (severity : Severity) (time : ℕ) (source id text : List ℕ) 
 report-printed severity time source id text at from name said = simp (list_all-append, severity-printed severity, at, from, name, said)
 
 pub report_plain : (severity : Severity) (time : ℕ) (source id text : List ℕ) → IsPrinted (decimal time) → IsPrinted source → IsPrinted id → text_fault text ≡ None
-    → ArePlainLines (report_line severity time source id text)
+    → IsPlainLine (report_line severity time source id text)
 unfolding report_line
-report_plain severity time source id text at from name none =
-    plain (report_text severity time source id text) (report-printed severity time source id text at from name (text_printed text none)) (report_begins severity time source id text)
+report_plain severity time source id text at from name none = record {
+  shown = report_text severity time source id text;
+  plain = and_from (list_all is_printed_byte (report_text severity time source id text)) (begins_plain (report_text severity time source id text)) (report-printed severity time source id text at from name (text_printed text none)) (report_begins severity time source id text);
+  joined = refl;
+}
 
 abbrev severity_count : Counts → Severity → List ℕ
 severity_count counts severity = severity_text severity ++ codes " : " ++ decimal (number_of counts severity)

@@ -6,7 +6,7 @@ ghost use Rattle.std.specs.Fmt.{decimal};
 ghost use Rattle.uvm_report.specs.Severities.{severity_text};
 ghost use Rattle.uvm_glob.specs.Printed.{IsPrinted};
 ghost use Rattle.uvm_report.specs.Lines.{report_line, severity_line, id_line, limit_line, severities, summary_text};
-ghost use Rattle.uvm_report.specs.Plain.{ArePlainLines};
+ghost use Rattle.uvm_report.specs.Plain.{ArePlainLines, IsPlainLine};
 
 use crate::messages::Report;
 use crate::severities::Severity;
@@ -19,7 +19,7 @@ use uvm_glob::laws::numbers_are_printed;
 impl Report {
     /// Appends the line of the report, with its newline, for example `UVM_ERROR @ 30: uvm_test_top [ID] TEXT`. `severity` is the changed
     /// severity, `time` is in ticks, and `source` is the text of the report's source. If `source` consists of printable characters, so
-    /// does the line, which begins neither with `!` nor with `?`. Errors: out of memory. An error appends nothing.
+    /// does the line, which then is a single one, and begins neither with `!` nor with `?`. Errors: out of memory. An error appends nothing.
     #[tactic(auto, using(crate::proofs::PlainLines::report_plain), unfolding(crate::specs::Lines::report_line))]
     pub fn write_line(
         &self,
@@ -30,7 +30,7 @@ impl Report {
     ) -> Result<(), AllocError>
         ensures ok { OnOk result (out.new.items ≡ out.old.items ++ report_line severity time source.now self.now.id self.now.text) }
         ensures err { OnErr result (out.new.items ≡ out.old.items) }
-        ensures plain { IsPrinted source.now → OnOk result (ArePlainLines (report_line severity time source.now self.now.id self.now.text)) }
+        ensures plain { IsPrinted source.now → OnOk result (IsPlainLine (report_line severity time source.now self.now.id self.now.text)) }
     {
         let mut line = Vec::new(*out.allocator());
         push_severity(severity, &mut line)?;

@@ -177,6 +177,16 @@ impl Reports {
         })
     }
 
+    /// Returns the actions for a report of the component at `path`: those for its severity after changes (`get_report_action`, Clause 6).
+    /// Allocates no memory.
+    #[tactic(auto, unfolding(crate::specs::Representation::severity_at, crate::specs::Representation::actions_at, crate::specs::Fates::ruling_by))]
+    pub fn actions_for(&self, path: &Path, report: &Report) -> Actions
+        ensures { result ≡ (ruling_at self.now path.now report.now).actions }
+    {
+        let severity = self.severity(path, report.severity, &report.id);
+        self.actions(path, severity, &report.id)
+    }
+
     /// Returns the number of issued reports of a severity, after changes of severity. Allocates no memory.
     pub fn count_of(&self, severity: Severity) -> u64
         ensures value { result ≡ number_of (counts_of self.now) severity }

@@ -50,7 +50,7 @@ pub use Rattle.uvm_phase.specs.declared.phases.Phase.{Phase}
 pub use Rattle.uvm_report.specs.Commands.{Command, Issue, SetAction, SetQuitLimit, SetSeverity, SetVerbosity, report_fate}
 pub use Rattle.uvm_report.specs.Fates.{asks_exit}
 unfoldable pub use Rattle.uvm_report.specs.Lines.{report_line}
-pub use Rattle.uvm_report.specs.Plain.{plain-none}
+pub use Rattle.uvm_report.specs.Plain.{most-none, most-one}
 pub use Rattle.uvm_report.specs.Severities.{severity_text}
 pub use Rattle.uvm_report.specs.declared.messages.Fate.{Fate}
 pub use Rattle.uvm_report.specs.declared.severities.Severity.{Severity}

@@ -1,5 +1,5 @@
 -- A line that is written has bytes.
-use Rattle.world_state.proofs.Common.{◌≢◌, ℕ, List, [], ◌∷◌, ◌++◌, Result, Ok, Err, OnErr, Severity, codes, decimal, severity_text, report_line, plain-none}
+use Rattle.world_state.proofs.Common.{◌≢◌, ℕ, List, [], ◌∷◌, ◌++◌, Result, Ok, Err, OnErr, Severity, codes, decimal, severity_text, report_line, most-none, most-one}
 
 ended : (text : List ℕ) (byte : ℕ) → text ++ byte ∷ [] ≢ []
 ended [] byte = λ none. cc
@@ -15,5 +15,5 @@ pub line_lost : {A E : Type 0} (result : Result A E) (severity : Severity) (time
 line_lost (Ok value) severity time source id text = tt
 line_lost (Err fault) severity time source id text = report_line_some severity time source id text
 
--- no line is written where there is no report
-pub ruleset plain = (plain-none)
+-- no line is written where there is no report, and otherwise one
+pub ruleset plain = (most-none, most-one)

@@ -2,7 +2,7 @@
 
 ghost use Rattle.std.specs.Prelude.{◌≡◌, ◌≢◌, ◌++◌, [], OnOk, OnErr};
 ghost use Rattle.uvm_glob.specs.Printed.{IsPrinted};
-ghost use Rattle.uvm_report.specs.Plain.{ArePlainLines};
+ghost use Rattle.uvm_report.specs.Plain.{IsLineAtMost, IsPlainLine};
 ghost use Rattle.world_state.specs.ReportLines.{act_line, line_at, note_line, source_at};
 
 use std::alloc::{AllocError, Global};
@@ -35,7 +35,7 @@ impl ReportSite<'_> {
     ) -> Result<(), AllocError>
         ensures ok { OnOk result (out.new.items ≡ out.old.items ++ act_line self.now who.now outcome.now act.now) }
         ensures err { OnErr result (out.new.items ≡ out.old.items) }
-        ensures plain { OnOk result (ArePlainLines (act_line self.now who.now outcome.now act.now)) }
+        ensures plain { OnOk result (IsLineAtMost (act_line self.now who.now outcome.now act.now)) }
         ensures some { OnErr result (act_line self.now who.now outcome.now act.now ≢ []) }
     {
         match (outcome, act) {
@@ -55,7 +55,7 @@ impl ReportSite<'_> {
     ) -> Result<(), AllocError>
         ensures ok { OnOk result (out.new.items ≡ out.old.items ++ note_line self.now fatal.now node) }
         ensures err { OnErr result (out.new.items ≡ out.old.items) }
-        ensures plain { OnOk result (ArePlainLines (note_line self.now fatal.now node)) }
+        ensures plain { OnOk result (IsPlainLine (note_line self.now fatal.now node)) }
         ensures some { OnErr result (note_line self.now fatal.now node ≢ []) }
     {
         let source = shown_path(node, self.tree);
@@ -66,7 +66,7 @@ impl ReportSite<'_> {
     fn push_own(&self, who: &Who, report: &Report, out: &mut Vec<u8>) -> Result<(), AllocError>
         ensures ok { OnOk result (out.new.items ≡ out.old.items ++ line_at self.now (source_at self.now who.now) report.now) }
         ensures err { OnErr result (out.new.items ≡ out.old.items) }
-        ensures plain { OnOk result (ArePlainLines (line_at self.now (source_at self.now who.now) report.now)) }
+        ensures plain { OnOk result (IsPlainLine (line_at self.now (source_at self.now who.now) report.now)) }
     {
         let source = source_of(self.alloc, who, self.tree, self.sequences)?;
         self.push_line(source.as_slice(), report, out)
@@ -76,7 +76,7 @@ impl ReportSite<'_> {
     fn push_line(&self, source: &[u8], report: &Report, out: &mut Vec<u8>) -> Result<(), AllocError>
         ensures ok { OnOk result (out.new.items ≡ out.old.items ++ line_at self.now source.now report.now) }
         ensures err { OnErr result (out.new.items ≡ out.old.items) }
-        ensures plain { IsPrinted source.now → OnOk result (ArePlainLines (line_at self.now source.now report.now)) }
+        ensures plain { IsPrinted source.now → OnOk result (IsPlainLine (line_at self.now source.now report.now)) }
     {
         report.write_line(self.severity, self.time, source, out)
     }

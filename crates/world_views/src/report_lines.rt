@@ -3,7 +3,7 @@
 ghost use Rattle.std.specs.Prelude.{◌≡◌, ◌≢◌, ◌++◌, [], true, Some, OnOk, OnErr, option_and_then};
 ghost use Rattle.uvm_report.specs.Fates.{displayed_as};
 ghost use Rattle.uvm_report.specs.Lines.{report_line};
-ghost use Rattle.uvm_report.specs.Plain.{ArePlainLines};
+ghost use Rattle.uvm_report.specs.Plain.{IsLineAtMost, IsPlainLine};
 ghost use Rattle.uvm_tree.specs.Nodes.{path_at};
 ghost use Rattle.uvm_acts.specs.Acts.{node_of};
 ghost use Rattle.uvm_object.specs.Fatals.{fatal_report};
@@ -27,7 +27,7 @@ pub fn push_report(world: &World, out: &mut Vec<u8>) -> Result<(), AllocError>
     requires { world.now.sound ≡ true }
     ensures ok { OnOk result (out.new.items ≡ out.old.items ++ report_text world.now.script world.now.history) }
     ensures err { OnErr result (out.new.items ≡ out.old.items) }
-    ensures plain { OnOk result (ArePlainLines (report_text world.now.script world.now.history)) }
+    ensures plain { OnOk result (IsLineAtMost (report_text world.now.script world.now.history)) }
     ensures some { OnErr result (report_text world.now.script world.now.history ≢ []) }
 {
     let Some(severity) = displayed_severity(world) else {
@@ -62,7 +62,7 @@ fn push_stored_act(
     requires { world.now.sound ≡ true }
     ensures ok { OnOk result (out.new.items ≡ out.old.items ++ line_under (now_of world.now.history) (source_text (nodes_of world.now.history) (sequences_of world.now.history) who.now) (outcome_command (path_at (nodes_of world.now.history) (node_of who.now)) outcome.now act.now) (Some severity)) }
     ensures err { OnErr result (out.new.items ≡ out.old.items) }
-    ensures plain { OnOk result (ArePlainLines (line_under (now_of world.now.history) (source_text (nodes_of world.now.history) (sequences_of world.now.history) who.now) (outcome_command (path_at (nodes_of world.now.history) (node_of who.now)) outcome.now act.now) (Some severity))) }
+    ensures plain { OnOk result (IsLineAtMost (line_under (now_of world.now.history) (source_text (nodes_of world.now.history) (sequences_of world.now.history) who.now) (outcome_command (path_at (nodes_of world.now.history) (node_of who.now)) outcome.now act.now) (Some severity))) }
     ensures some { OnErr result (line_under (now_of world.now.history) (source_text (nodes_of world.now.history) (sequences_of world.now.history) who.now) (outcome_command (path_at (nodes_of world.now.history) (node_of who.now)) outcome.now act.now) (Some severity) ≢ []) }
 {
     site(world, severity).push_stored_act(who, outcome, act, out)
@@ -79,7 +79,7 @@ fn push_note(
     requires { world.now.sound ≡ true }
     ensures ok { OnOk result (out.new.items ≡ out.old.items ++ report_line severity (now_of world.now.history) (shown_path (path_at (nodes_of world.now.history) node)) (fatal_report fatal.now).id (fatal_report fatal.now).text) }
     ensures err { OnErr result (out.new.items ≡ out.old.items) }
-    ensures plain { OnOk result (ArePlainLines (report_line severity (now_of world.now.history) (shown_path (path_at (nodes_of world.now.history) node)) (fatal_report fatal.now).id (fatal_report fatal.now).text)) }
+    ensures plain { OnOk result (IsPlainLine (report_line severity (now_of world.now.history) (shown_path (path_at (nodes_of world.now.history) node)) (fatal_report fatal.now).id (fatal_report fatal.now).text)) }
     ensures some { OnErr result (report_line severity (now_of world.now.history) (shown_path (path_at (nodes_of world.now.history) node)) (fatal_report fatal.now).id (fatal_report fatal.now).text ≢ []) }
 {
     site(world, severity).push_note(fatal, node, out)

@@ -1,5 +1,5 @@
 use Rattle.bench_run.proofs.Common.{◌≡◌, Err, ap, refl, rules, subst, true, false, AreDrawn, Grows, IsHalted, Output}
-use Rattle.bench_run.proofs.Goings.{breaks-off, err-told, goes-on, grown-health, grown-script, halts, told-health, told-log, unsummed}
+use Rattle.bench_run.proofs.Goings.{breaks-off, err-told, goes-on, grown-health, grown-script, halts, lines-grown, told-health, told-log, unsummed}
 use Rattle.bench_run.proofs.Lives.{begins, lived-same}
 use Rattle.bench_run.proofs.Words.{drawn-grown, drawn-none, drawn-told, given-all, given-broken, given-lost, words-same}
 use Rattle.bench_run.proofs.Texts.{took-grown, took-halted, took-more, took-none, took-unsummed, took-unwritten}
@@ -19,6 +19,7 @@ loop-kernel-preserved g c =
       objects = c.in_ok-make_entry.ensures.objects inv.objects;
       room = λ failed. absurd (let bad : true ≡ false = rw failed at going in cc);
       wrote = goes-on c.args.trace _ _ c.args.kernel.now.core.script _ _ _ grown inv.good inv.script inv.wrote c.in_ok-write_last.ensures.ok;
+      lines = lines-grown c.args.trace _ _ c.args.kernel.now.core.script grown inv.good inv.script c.in_ok-write_last.ensures.lines inv.lines;
       took = took-grown _ _ _ _ _ grown inv.took c.in_ok-write_last.ensures.count;
       steady = λ refuses. inv.steady (c.in_ok-write_last.ensures.steady refuses);
     }
@@ -29,7 +30,7 @@ returns-in_err-write_last-clause-run g c =
     let inv = c.loop-kernel.invariant in
     let grown : Grows c.loop-kernel.kernel.core c.make_entry.new.kernel.core = rw c.if-branch.true at c.in_ok-make_entry.ensures.ok in
     breaks-off c.from_residual-in_err-write_last.result c.in_err-write_last.field-0.0 c.args.trace _ _ c.args.kernel.now.core.script _ _ _
-    c.from_residual-in_err-write_last.ensures.1 grown (grown-script grown inv.script) (rw inv.script at (inv.legal)) c.in_err-write_last.ensures.legal inv.wrote c.in_err-write_last.ensures.err
+    c.from_residual-in_err-write_last.ensures.1 grown (grown-script grown inv.script) (rw inv.script at (inv.legal)) c.in_err-write_last.ensures.legal inv.lines inv.wrote c.in_err-write_last.ensures.err
     (λ memory. c.in_err-write_last.ensures.lost (ap Err memory))
 
 -- no more entry was made
@@ -37,7 +38,7 @@ pub returns-in_err-make_entry-clause-run : goal.returns-in_err-make_entry-clause
 returns-in_err-make_entry-clause-run g c =
     let inv = c.loop-kernel.invariant in
     halts c.from_residual.result c.in_err-make_entry.field-0.0 c.args.trace _ _ _ c.args.kernel.now.core.script _ _
-    c.from_residual.ensures.1 c.in_err-make_entry.ensures.err c.in_err-make_entry.ensures.same inv.room inv.legal inv.script inv.wrote
+    c.from_residual.ensures.1 c.in_err-make_entry.ensures.err c.in_err-make_entry.ensures.same inv.room inv.legal inv.script inv.lines inv.wrote
 
 -- nothing has begun
 pub loop-kernel-init : goal.loop-kernel-init
@@ -48,6 +49,7 @@ loop-kernel-init g c = record {
   room = search rules;
   drawn = rw c.requires.begun (drawn-none g.R.Rng.stream c.args.words.now);
   objects = begins g.O.UvmObject.view g.O.UvmObject.name g.O.UvmObject.says _ c.args.kernel.now c.requires.begun c.live-held.ensures.made;
+  lines = rw c.requires.begun tt;
   wrote = search rules;
   took = rw c.requires.begun (took-none (g.S.Sink.taken c.args.out.now));
   steady = λ refuses. refuses;
@@ -84,7 +86,7 @@ returns-in_err-write_summary-clause-run g c =
     let inv = c.loop-kernel.invariant in
     let ended = rw c.if-branch.false at (c.in_ok-make_entry.ensures.ok) in
     unsummed c.from_residual-in_err-write_summary.result c.in_err-write_summary.field-0.0 c.args.trace _ _ c.args.kernel.now.core.script _ _ _
-    c.from_residual-in_err-write_summary.ensures.1 (told-log _ _ ended.1) ended.0 inv.legal inv.script inv.wrote c.in_err-write_summary.ensures.err
+    c.from_residual-in_err-write_summary.ensures.1 (told-log _ _ ended.1) ended.0 inv.legal inv.script inv.lines inv.wrote c.in_err-write_summary.ensures.err
 
 pub returns-clause-words : goal.returns-clause-words
 returns-clause-words g c =

@@ -1,4 +1,4 @@
-use Rattle.bench_run.proofs.Common.{Appends, ◌≡◌, ◌<◌, ◌-◌, true, length, log_limit, IsLegal, Good, AreKept, MayGive, AreDrawn, transcript, TookMore}
+use Rattle.bench_run.proofs.Common.{Appends, ◌≡◌, ◌<◌, ◌-◌, true, length, log_limit, IsLegal, Good, AreKept, MayGive, AreDrawn, HaveFewLines, transcript, TookMore}
 use Rattle.bench_run.proofs.running.run_to_end.Given as goal
 
 -- the text of the log so far was written, one for each entry, which has room where the kernel has failed; its words were drawn, and its objects have
@@ -12,6 +12,7 @@ invariant-loop-kernel g l = record {
   drawn : AreDrawn g.R.Rng.stream l.kernel.core.history l.fn.words l.words;
   objects : AreKept g.O.UvmObject.view g.O.UvmObject.name g.O.UvmObject.says (MayGive g.F.Fn l.fn.make) l.kernel;
   wrote : Appends (g.S.Sink.contents l.fn.out) (g.S.Sink.contents l.out) (transcript l.trace l.fn.kernel.core.script l.kernel.core.history);
+  lines : HaveFewLines l.trace l.fn.kernel.core.script l.kernel.core.history;
   took : TookMore (length l.kernel.core.history) (g.S.Sink.taken l.fn.out) (g.S.Sink.taken l.out);
   steady : g.S.Sink.refuses l.out → g.S.Sink.refuses l.fn.out;
 }

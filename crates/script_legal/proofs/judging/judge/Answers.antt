@@ -1,7 +1,9 @@
-use Rattle.std.proofs.Common.{option_copied}
-use Rattle.script_legal.proofs.Judged.{legal-of}
+use Rattle.std.specs.Prelude.{option_copied}
+use Rattle.script_legal.proofs.Judged.{all-judged}
 use Rattle.script_legal.proofs.judging.judge.Goals as goal
 
--- by the law of benches that were read
+-- by the laws of benches that were read and of runs
 pub returns : goal.returns
-returns c = λ same. legal-of c.args.bytes.now (option_copied c.args.test) c.in-Ok.bench c.args.text.now c.bench_runs_are_runs.ensures c.in-Ok.ensures.ok (c.judged.ensures same)
+returns c =
+    all-judged c.args.bytes.now (option_copied c.args.test) c.in-Ok.bench c.args.text.now c.bench_runs_are_runs.ensures c.runs_are_determined.ensures c.in-Ok.ensures.ok c.judged.result
+    (rw (c.as_slice.ensures.value, c.in-Ok-shown_words.ensures) at c.judged.ensures)

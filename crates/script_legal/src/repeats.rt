@@ -92,7 +92,7 @@ fn make_entry(alloc: Global, core: &mut Core, issues: bool, text: &[u8]) -> Resu
     ensures full { result ≡ Err CoreFault.LogFull → IsFullLog core.old core.new }
     ensures script { core.new.script ≡ core.old.script }
 {
-    let (line, _) = split_line(text);
+    let (line, rest) = split_line(text);
     let word = [word_in(line).unwrap_or(0)];
     let mut words = KnownWords::new(&word);
     loop {
@@ -105,7 +105,7 @@ fn make_entry(alloc: Global, core: &mut Core, issues: bool, text: &[u8]) -> Resu
                 return Ok(true);
             }
             Ok(Turn::Ask { .. }) => {
-                hear(alloc, core, issues, text)?;
+                hear(alloc, core, issues, line, rest)?;
                 return Ok(true);
             }
             Err(fault) => return Err(fault),
@@ -125,14 +125,20 @@ fn fill(core: &mut Core, line: &[u8])
     }
 }
 
-// Records the answer to a call that the lines of a text show. Errors: out of memory.
-fn hear(alloc: Global, core: &mut Core, issues: bool, text: &[u8]) -> Result<(), CoreFault>
+// Records the answer to a call that its line and the text behind it show. Errors: out of memory.
+fn hear(
+    alloc: Global,
+    core: &mut Core,
+    issues: bool,
+    line: &[u8],
+    rest: &[u8],
+) -> Result<(), CoreFault>
     requires { IsAsk (turn_of core.old.standing) }
     ensures ok { OnOk result (Grows core.old core.new) }
     ensures err { IfErr result (λ fault. fault ≡ CoreFault.Memory) }
     ensures script { core.new.script ≡ core.old.script }
 {
-    let Ok(acts) = answer_in(alloc, issues, text) else {
+    let Ok(acts) = answer_in(alloc, issues, line, rest) else {
         return Err(CoreFault::Memory);
     };
     core.heard(acts)
@@ -238,19 +244,19 @@ fn next_place(core: &Core, place: Place, text: &[u8], lines: u64) -> Place {
 fn unshown_at(core: &Core, line: u64, text: &[u8]) -> Option<(u64, Unshown)> {
     match core.log().last()? {
         Entry::Did { who, outcome, act } if matches!(outcome.get(), Outcome::Done) => {
-            let (next, _) = split_line(split_line(text).1);
-            Some((line, unshown_of(core, who, act.act().get(), next)?))
+            Some((line, unshown_of(core, who, act.act().get(), text)?))
         }
         _ => None,
     }
 }
 
-// Returns what the line of an action that was performed does not show, if anything. `next` is the line behind it.
-fn unshown_of(core: &Core, who: &Who, act: &Act, next: &[u8]) -> Option<Unshown> {
+// Returns what the line of an action that was performed does not show, if anything. `text` begins with that line.
+fn unshown_of(core: &Core, who: &Who, act: &Act, text: &[u8]) -> Option<Unshown> {
     match act {
         Act::Severity { id: None, .. } => Some(Unshown::Id),
         Act::Report { report } if report.severity == Severity::Info => {
-            if next.starts_with(b"UVM_") {
+            let (_, rest) = split_line(text);
+            if rest.starts_with(b"UVM_") {
                 return None;
             }
             let actions = core.reports()?.actions_for(core.path(who.node())?, report);

@@ -18,12 +18,16 @@ pub fn count_in(line: &[u8]) -> Option<u64> {
     number_in(last_part(line))
 }
 
-/// Returns the answer to a call that the lines of a transcript show, from the line of the call on. It has as many actions as that line says,
-/// and at most `MOST_ACTS`. Those that no line shows were not performed: `end_step` stands for each. An INFO that is not displayed has the
+/// Returns the answer to a call that a transcript shows: the line of the call, and the text behind it. It has as many actions as that line
+/// says, and at most `MOST_ACTS`. Those that no line shows were not performed: `end_step` stands for each. An INFO that is not displayed has the
 /// verbosity 0 if `issues` is true, so that it is issued, and otherwise the greatest, so that it is dropped. Errors: out of memory.
-pub fn answer_in(alloc: Global, issues: bool, text: &[u8]) -> Result<Acts, AllocError> {
+pub fn answer_in(
+    alloc: Global,
+    issues: bool,
+    line: &[u8],
+    rest: &[u8],
+) -> Result<Acts, AllocError> {
     let mut acts = Acts::new(alloc);
-    let (line, rest) = split_line(text);
     let count = count_in(line).unwrap_or(0).min(MOST_ACTS);
     push_shown((alloc, issues), rest, count, &mut acts)?;
     let shown = acts.len() as u64;
@@ -48,7 +52,7 @@ fn push_shown(
             return Ok(());
         }
         if line.starts_with(b"did ") {
-            let Some(act) = act_in((alloc, issues), line, split_line(rest).0)? else {
+            let Some(act) = act_in((alloc, issues), line, rest)? else {
                 return Ok(());
             };
             acts.push(act)?;
@@ -57,12 +61,12 @@ fn push_shown(
     Ok(())
 }
 
-// Returns the action that the line of an action shows. `next` is the line behind it, which may be that of its report. Returns `None` if the
-// line shows no action. Errors: out of memory.
+// Returns the action that the line of an action shows. The text behind it may begin with the line of its report. Returns `None` if the line
+// shows no action. Errors: out of memory.
 fn act_in(
     (alloc, issues): (Global, bool),
     line: &[u8],
-    next: &[u8],
+    rest: &[u8],
 ) -> Result<Option<Act>, AllocError> {
     let Some(text) = act_text_in(line) else {
         return Ok(None);
@@ -70,7 +74,7 @@ fn act_in(
     if !text.starts_with("report ") {
         return read_act(alloc, text);
     }
-    let whole = match report_in(next) {
+    let whole = match report_in(split_line(rest).0) {
         Some("") => return read_act(alloc, text),
         Some(said) => format!(in alloc; "{text} 0 {said}")?,
         None if !issues && text.starts_with("report INFO ") => format!(in alloc; "{text} 65535")?,
